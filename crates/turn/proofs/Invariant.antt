@@ -1,0 +1,97 @@
+-- Lists of phases that a turn by g only permutes, and what keeps that. Assumes nothing.
+use mathlib.Core.Path.{_≡_, refl, sym, ap, ap₂, _∙_}
+use mathlib.Core.List.{List, [], _∷_, _++_, map}
+use Prim.Native.Nat.{ℕ, zero, suc, _+_, _*_}
+use native.Mathlib.Nat.{zero-mul, suc-mul}
+use native.Mathlib.Omega.{arith}
+use Rattle.turn.specs.Phase.{turn, phase}
+use Rattle.turn.specs.Column.{steps, product}
+use Rattle.turn.proofs.Totals.{total, total-cong, total-append, total-map, total-product, Steady, steady-same, steady-shift, steady-total}
+
+-- A turn by g only permutes the phases xs: no function of a phase has another total after it. (Of the function that is 1 at e and else 0: as many
+-- are at e + g as at e.)
+pub record Invariant (g : ℕ) (xs : List ℕ) : Type 0 where
+  pub turned : (f : ℕ → ℕ) → Steady f → total (λ x. f (x + g)) xs ≡ total f xs
+
+-- two turns, one after the other
+pub invariant-add : {g h : ℕ} {xs : List ℕ} → Invariant g xs → Invariant h xs → Invariant (g + h) xs
+invariant-add {g} {h} {xs} p q = record {
+  turned = λ f s.
+      total-cong (λ x. ap f (omega arith)) xs
+      ∙ p .turned (λ x. f (x + h)) (steady-shift s h)
+      ∙ q .turned f s;
+}
+
+-- only the phase of g counts
+pub invariant-same : {g h : ℕ} {xs : List ℕ} → phase g ≡ phase h → Invariant g xs → Invariant h xs
+invariant-same {g} {h} {xs} e p = record {
+  turned = λ f s. total-cong (λ x. steady-same s (x + h) (x + g) (omega arith)) xs ∙ p .turned f s;
+}
+
+pub invariant-phases : {g : ℕ} {xs : List ℕ} → Invariant g xs → Invariant g (map phase xs)
+invariant-phases {g} {xs} p = record {
+  turned = λ f s.
+      total-map (λ x. f (x + g)) phase xs
+      ∙ total-cong (λ x. steady-shift s g x) xs
+      ∙ p .turned f s
+      ∙ sym (total-map f phase xs ∙ total-cong s xs);
+}
+
+pub invariant-nil : {g : ℕ} → Invariant g []
+unfolding total
+invariant-nil = record { turned = λ f s. refl }
+
+pub invariant-append : {g : ℕ} {xs ys : List ℕ} → Invariant g xs → Invariant g ys → Invariant g (xs ++ ys)
+invariant-append {g} {xs} {ys} p q = record {
+  turned = λ f s. total-append (λ x. f (x + g)) xs ys ∙ ap₂ _+_ (p .turned f s) (q .turned f s) ∙ sym (total-append f xs ys);
+}
+
+pub invariant-shift : {g : ℕ} {ys : List ℕ} (x : ℕ) → Invariant g ys → Invariant g (map (λ y. x + y) ys)
+invariant-shift {g} {ys} x p = record {
+  turned = λ f s.
+      total-map (λ z. f (z + g)) (λ y. x + y) ys
+      ∙ total-cong (λ y. ap f (omega arith)) ys
+      ∙ p .turned (λ y. f (y + x)) (steady-shift s x)
+      ∙ total-cong (λ y. ap f (omega arith)) ys
+      ∙ sym (total-map f (λ y. x + y) ys);
+}
+
+-- ---- a product, by either factor
+
+pub invariant-right : {g : ℕ} (xs : List ℕ) {ys : List ℕ} → Invariant g ys → Invariant g (product xs ys)
+unfolding product
+invariant-right [] p = invariant-nil
+invariant-right (x ∷ xs) p = invariant-append (invariant-shift x p) (invariant-right xs p)
+
+pub invariant-left : {g : ℕ} {xs : List ℕ} (ys : List ℕ) → Invariant g xs → Invariant g (product xs ys)
+invariant-left {g} {xs} ys p = record {
+  turned = λ f s.
+      total-product (λ x. f (x + g)) xs ys
+      ∙ total-cong (λ x. total-cong (λ y. ap f (omega arith)) ys) xs
+      ∙ p .turned (λ x. total (λ y. f (x + y)) ys) (steady-total s ys)
+      ∙ sym (total-product f xs ys);
+}
+
+-- ---- steps
+
+-- one step on, the first is dropped and one more is added
+one-on : (f : ℕ → ℕ) (n s : ℕ) → total (λ x. f (x + s)) (steps n s) + f 0 ≡ total f (steps n s) + f (n * s)
+unfolding total steps
+one-on f zero s = ap (λ (x : ℕ). 0 + f x) (sym (zero-mul s))
+one-on f (suc n) s =
+    omega (
+      arith,
+      one-on f n s,
+      total-append (λ x. f (x + s)) (steps n s) (n * s ∷ []),
+      total-append f (steps n s) (n * s ∷ []),
+      ap f (suc-mul n s),
+    )
+
+-- n steps of s that come round to where they began
+pub invariant-steps : (n s : ℕ) → phase (n * s) ≡ 0 → Invariant s (steps n s)
+invariant-steps n s e = record {
+  turned = λ f st.
+      let r = one-on f n s in
+      let w = steady-same st (n * s) 0 e in
+      omega arith;
+}

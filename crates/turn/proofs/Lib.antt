@@ -1,0 +1,16 @@
+-- The laws, from the ground up; `Orthogonal` and `Cancel` are what other crates come for.
+pub mod Unique
+pub mod Tests
+pub mod All
+pub mod Lists
+pub mod Steps
+pub mod Entries
+pub mod Totals
+pub mod Invariant
+pub mod Zero
+pub mod Differences
+pub mod Beams
+pub mod Opposites
+pub mod Orthogonal
+pub mod Cancel
+pub mod Example

@@ -1,0 +1,35 @@
+-- Lengths of the lists of phases, and what `map` does to them. Assumes nothing.
+use mathlib.Core.Path.{_≡_, refl, ap, ap₂, _∙_}
+use mathlib.Core.List.{List, [], _∷_, _++_, map}
+use Prim.Native.Nat.{ℕ, zero, suc, _+_, _*_}
+use native.Mathlib.Omega.{arith}
+use lib.ListN.{length, length-append, length-map}
+use Rattle.turn.specs.Phase.{phase}
+use Rattle.turn.specs.Column.{Setting, steps, product, grid, beam, column}
+
+pub map-append : (f : ℕ → ℕ) (xs ys : List ℕ) → map f (xs ++ ys) ≡ map f xs ++ map f ys
+map-append f [] ys = refl
+map-append f (x ∷ xs) ys = ap {B = List ℕ} (λ l. f x ∷ l) (map-append f xs ys)
+
+pub length-steps : (n s : ℕ) → length (steps n s) ≡ n
+unfolding steps
+length-steps zero s = refl
+length-steps (suc n) s = length-append (steps n s) (n * s ∷ []) ∙ omega (arith, length-steps n s)
+
+pub length-product : (xs ys : List ℕ) → length (product xs ys) ≡ length xs * length ys
+unfolding product
+length-product [] ys = omega arith
+length-product (x ∷ xs) ys =
+    length-append (map (λ y. x + y) ys) (product xs ys) ∙ omega (arith, length-map ys (λ y. x + y), length-product xs ys)
+
+pub length-grid : (n1 s n2 u : ℕ) → length (grid n1 s n2 u) ≡ n1 * n2
+unfolding grid
+length-grid n1 s n2 u = length-product (steps n1 s) (steps n2 u) ∙ ap₂ _*_ (length-steps n1 s) (length-steps n2 u)
+
+pub length-beam : (c : Setting) (l m : ℕ) → length (beam c l m) ≡ c .n1 * c .n2
+unfolding beam
+length-beam c l m = length-grid (c .n1) _ (c .n2) _
+
+pub length-column : (co b : List ℕ) → length (column co b) ≡ length co * length b
+unfolding column
+length-column co b = length-map (product co b) phase ∙ length-product co b

@@ -1,0 +1,54 @@
+-- Columns of different beams of one setting, and columns with opposite co-phases, are exactly orthogonal. Assumes nothing.
+use mathlib.Core.Path.{_≡_, refl, sym, ap, ap₂, _∙_, subst}
+use mathlib.Core.Logic.{_≢_}
+use mathlib.Core.Bool.{Bool}
+use mathlib.Core.List.{List, [], _∷_, map}
+use Prim.Native.Nat.{ℕ, _+_, _-_, _*_}
+use native.Mathlib.Nat.{mod-mod}
+use native.Mathlib.Omega.{arith}
+use lib.ListN.{length}
+use Rattle.turn.specs.Phase.{turn, half, phase, difference}
+use Rattle.turn.specs.Column.{Setting, Divides, beam, column}
+use Rattle.turn.specs.Exact.{ExactZero, differences, Orthogonal}
+use Rattle.turn.proofs.Invariant.{Invariant, invariant-left, invariant-right, invariant-phases}
+use Rattle.turn.proofs.Zero.{exact-zero}
+use Rattle.turn.proofs.Differences.{differences-column}
+use Rattle.turn.proofs.Beams.{Apart, same-length, beams-turned}
+use Rattle.turn.proofs.Opposites.{flipped, agreeing, differing, opposites-invariant}
+
+phases-differences : (xs ys : List ℕ) → map phase (differences xs ys) ≡ differences xs ys
+unfolding differences difference
+phases-differences [] ys = refl
+phases-differences (x ∷ xs) [] = refl
+phases-differences (x ∷ xs) (y ∷ ys) = ap₂ {C = List ℕ} (λ z l. z ∷ l) (mod-mod (y + (turn - phase x)) turn) (phases-differences xs ys)
+
+-- two lists of phases whose differences some turn, no whole one, only permutes
+pub orthogonal-turned : {g : ℕ} (xs ys : List ℕ) → phase g ≢ 0 → Invariant g (differences xs ys) → Orthogonal xs ys
+orthogonal-turned xs ys ne p = subst ExactZero (phases-differences xs ys) (exact-zero ne p)
+
+-- ---- either factor of two columns
+
+module _ {g : ℕ} (co co′ b b′ : List ℕ) (e : length b ≡ length b′) where
+  pub turned-by-beams : Invariant g (differences b b′) → Invariant g (differences (column co b) (column co′ b′))
+  turned-by-beams p = rw (differences-column co co′ b b′ e) (invariant-phases (invariant-right (differences co co′) p))
+
+  pub turned-by-co-phases : Invariant g (differences co co′) → Invariant g (differences (column co b) (column co′ b′))
+  turned-by-co-phases p = rw (differences-column co co′ b b′ e) (invariant-phases (invariant-left (differences b b′) p))
+
+-- ---- the two theorems
+
+-- columns of two beams that lie whole multiples of the oversampling apart, whatever the co-phases
+pub beams-orthogonal : (c : Setting) → Divides c → (l m j1 j2 k1 k2 : ℕ) → Apart c j1 j2 k1 k2 → (co co′ : List ℕ)
+    → Orthogonal (column co (beam c (l + j1 * c .o1) (m + j2 * c .o2))) (column co′ (beam c (l + k1 * c .o1) (m + k2 * c .o2)))
+beams-orthogonal c whole l m j1 j2 k1 k2 a co co′ =
+    let t = beams-turned c whole l m j1 j2 k1 k2 a in
+    orthogonal-turned _ _ (t .some) (turned-by-beams co co′ _ _ (same-length c whole l m j1 j2 k1 k2) (t .invariant))
+
+-- columns whose co-phases agree as often as they are opposite, whatever the beams
+pub opposites-orthogonal : (co : List ℕ) (ms ns : List Bool) → length ms ≡ length co → length ns ≡ length co → agreeing ms ns ≡ differing ms ns
+    → (b b′ : List ℕ) → length b ≡ length b′ → Orthogonal (column (flipped co ms) b) (column (flipped co ns) b′)
+opposites-orthogonal co ms ns h k e b b′ same =
+    orthogonal-turned _ _ half-some (turned-by-co-phases _ _ b b′ same (opposites-invariant co ms ns h k e))
+  where
+    half-some : phase half ≢ 0
+    half-some = omega arith
