@@ -51,15 +51,15 @@ module _ (c : Setting) (whole : Divides c) (l m j1 j2 k1 k2 : ℕ) where
   pub beams-turned : Apart c j1 j2 k1 k2 → Turned c (differences first second)
   beams-turned a = elim a [
     | inl ne ↦ record {
-        by = gap1;
-        some = gap-some (c .n1) (c .o1) (whole .rows) j1 k1 ne;
-        multiple = λ h. gap-multiple (c .n1) (c .o1) (whole .rows) _ j1 k1 (h .rows);
-        invariant = rw differences-beams (invariant-phases (invariant-left _ (invariant-phases (invariant-steps (c .n1) gap1 (gap-round (c .n1) (c .o1) (whole .rows) j1 k1)))));
-      }
+      by = gap1;
+      some = gap-some (c .n1) (c .o1) (whole .rows) j1 k1 ne;
+      multiple = λ h. gap-multiple (c .n1) (c .o1) (whole .rows) _ j1 k1 (h .rows);
+      invariant = rw differences-beams (invariant-phases (invariant-left _ (invariant-phases (invariant-steps (c .n1) gap1 (gap-round (c .n1) (c .o1) (whole .rows) j1 k1)))));
+    }
     | inr ne ↦ record {
-        by = gap2;
-        some = gap-some (c .n2) (c .o2) (whole .columns) j2 k2 ne;
-        multiple = λ h. gap-multiple (c .n2) (c .o2) (whole .columns) _ j2 k2 (h .columns);
-        invariant = rw differences-beams (invariant-phases (invariant-right _ (invariant-phases (invariant-steps (c .n2) gap2 (gap-round (c .n2) (c .o2) (whole .columns) j2 k2)))));
-      }
+      by = gap2;
+      some = gap-some (c .n2) (c .o2) (whole .columns) j2 k2 ne;
+      multiple = λ h. gap-multiple (c .n2) (c .o2) (whole .columns) _ j2 k2 (h .columns);
+      invariant = rw differences-beams (invariant-phases (invariant-right _ (invariant-phases (invariant-steps (c .n2) gap2 (gap-round (c .n2) (c .o2) (whole .columns) j2 k2)))));
+    }
   ]

@@ -2,9 +2,9 @@
 use mathlib.Core.Path.{_≡_, sym, subst}
 use mathlib.Core.Logic.{_⊎_, inl, inr}
 use mathlib.Core.Bool.{Bool, true, false, _&&_, _||_}
-use Prim.Native.Nat.{ℕ, zero, suc, _<_}
+use Prim.Native.Nat.{ℕ, zero, suc, _<_, _≤_}
 use native.Mathlib.Nat.{not-suc-le-zero, le-of-suc-le-suc, eq-or-lt-of-le}
-use lib.Dec.{T, eqb, eqb-refl}
+use lib.Dec.{T, eqb, eqb-refl, leb, leb→le}
 
 pub and-left : (a b : Bool) → T (a && b) → T a
 and-left true b t = tt
@@ -21,6 +21,9 @@ or-cases false b t = inr t
 pub or-else : (a b : Bool) → (T a → ⊥) → T (a || b) → T b
 or-else true b n t = absurd (n tt)
 or-else false b n t = t
+
+pub two-le : (a b c d : ℕ) → T (leb a b && leb c d) → (a ≤ b) × (c ≤ d)
+two-le a b c d t = (leb→le a b (and-left (leb a b) (leb c d) t), leb→le c d (and-right (leb a b) (leb c d) t))
 
 pub eq→eqb : (m n : ℕ) → m ≡ n → T (eqb m n)
 eq→eqb m n e = subst (λ (k : ℕ). T (eqb m k)) e (eqb-refl m)

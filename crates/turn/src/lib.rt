@@ -13,7 +13,9 @@ pub struct Phase {
 
 impl Phase {
     pub const QUARTER: Phase = Phase { parts: TURN / 4 };
+
     pub const HALF: Phase = Phase { parts: TURN / 2 };
+
     pub const EIGHTH: Phase = Phase { parts: TURN / 8 };
 
     // A whole number of parts as a phase: `Phase::of(200)` has 8 parts.

@@ -1,0 +1,112 @@
+-- Laws of integers that the library has not. Assumes nothing.
+use mathlib.Core.Path.{_≡_, refl, sym, ap, ap₂, _∙_}
+use mathlib.Core.Bool.{Bool, true, false, cond}
+use Prim.Native.Nat.{ℕ, zero, suc, _+_, _-_, _*_, _≤_, _<_}
+use native.Mathlib.Nat.{le-refl, mul-zero}
+use native.Mathlib.Omega.{arith}
+use lib.Dec.{T, eqb, eqb→eq, ltb, ltb→lt}
+use lib.IntN.{ℤ, pos, negsuc, negℤ, natAbs, subℕ, _+ℤ_, _-ℤ_, _*ℤ_, sucℤ-*ℤ, zero-*ℤ, *ℤ-comm, +ℤ-assoc, +ℤ-comm, +ℤ-idl, +ℤ-idr, -ℤ-+ℤ-cancel, negℤ-+ℤ, negℤ-negℤ}
+
+-- ---- equality, as a test
+
+unfoldable pub eqZ : ℤ → ℤ → Bool
+eqZ (pos a) (pos b) = eqb a b
+eqZ (pos a) (negsuc b) = false
+eqZ (negsuc a) (pos b) = false
+eqZ (negsuc a) (negsuc b) = eqb a b
+
+pub eqZ→eq : (a b : ℤ) → T (eqZ a b) → a ≡ b
+unfolding eqZ
+eqZ→eq (pos a) (pos b) t = ap pos (eqb→eq a b t)
+eqZ→eq (pos a) (negsuc b) t = absurd t
+eqZ→eq (negsuc a) (pos b) t = absurd t
+eqZ→eq (negsuc a) (negsuc b) t = ap negsuc (eqb→eq a b t)
+
+-- ---- signs and sizes
+
+pub mul-neg : (a b : ℤ) → a *ℤ negℤ b ≡ negℤ (a *ℤ b)
+mul-neg (pos a) (pos zero) = rw mul-zero
+mul-neg (negsuc a) (pos zero) = rw mul-zero
+mul-neg (pos a) (pos (suc n)) = refl
+mul-neg (negsuc a) (pos (suc n)) = sym (negℤ-negℤ (pos (suc a * suc n)))
+mul-neg (pos a) (negsuc n) = sym (negℤ-negℤ (pos (a * suc n)))
+mul-neg (negsuc a) (negsuc n) = refl
+
+pub neg-mul : (a b : ℤ) → negℤ a *ℤ b ≡ negℤ (a *ℤ b)
+neg-mul a b = *ℤ-comm (negℤ a) b ∙ mul-neg b a ∙ ap negℤ (*ℤ-comm b a)
+
+pub size-neg : (z : ℤ) → natAbs (negℤ z) ≡ natAbs z
+size-neg (pos zero) = refl
+size-neg (pos (suc n)) = refl
+size-neg (negsuc n) = refl
+
+size-sub : (a b : ℕ) → natAbs (subℕ a b) ≤ a + b
+size-sub a b = go (ltb a b) (λ t. ltb→lt a b t)
+  where
+    go : (t : Bool) → (T t → a < b) → natAbs (cond t (negsuc (b - suc a)) (pos (a - b))) ≤ a + b
+    go true h = let k = h tt in omega arith
+    go false h = omega arith
+
+pub size-add : (a b : ℤ) → natAbs (a +ℤ b) ≤ natAbs a + natAbs b
+size-add (pos a) (pos b) = le-refl (a + b)
+size-add (pos a) (negsuc b) = size-sub a (suc b)
+size-add (negsuc a) (pos b) = omega (arith, size-sub b (suc a))
+size-add (negsuc a) (negsuc b) = omega arith
+
+-- ---- sums
+
+pub interchange : (a b c d : ℤ) → (a +ℤ b) +ℤ (c +ℤ d) ≡ (a +ℤ c) +ℤ (b +ℤ d)
+interchange a b c d =
+    +ℤ-assoc a b (c +ℤ d)
+    ∙ ap (λ z. a +ℤ z) (sym (+ℤ-assoc b c d) ∙ ap (λ z. z +ℤ d) (+ℤ-comm b c) ∙ +ℤ-assoc c b d)
+    ∙ sym (+ℤ-assoc a c (b +ℤ d))
+
+pub sub-sums : (a b c d : ℤ) → (a +ℤ b) -ℤ (c +ℤ d) ≡ (a -ℤ c) +ℤ (b -ℤ d)
+sub-sums a b c d = ap (λ z. (a +ℤ b) +ℤ z) (negℤ-+ℤ c d) ∙ interchange a b (negℤ c) (negℤ d)
+
+pub mul-sum : (k : ℕ) (a b : ℤ) → pos k *ℤ (a +ℤ b) ≡ pos k *ℤ a +ℤ pos k *ℤ b
+mul-sum zero a b = zero-*ℤ (a +ℤ b) ∙ sym (ap₂ _+ℤ_ (zero-*ℤ a) (zero-*ℤ b))
+mul-sum (suc k) a b =
+    sucℤ-*ℤ (pos k) (a +ℤ b)
+    ∙ ap (λ z. z +ℤ (a +ℤ b)) (mul-sum k a b)
+    ∙ interchange (pos k *ℤ a) (pos k *ℤ b) a b
+    ∙ sym (ap₂ _+ℤ_ (sucℤ-*ℤ (pos k) a) (sucℤ-*ℤ (pos k) b))
+
+-- ---- an integer as the difference of two numbers, so that totals of numbers give sums of integers
+
+unfoldable pub above : ℤ → ℕ
+above (pos n) = n
+above (negsuc n) = 0
+
+unfoldable pub below : ℤ → ℕ
+below (pos n) = 0
+below (negsuc n) = suc n
+
+pub above-neg : (z : ℤ) → above (negℤ z) ≡ below z
+unfolding above below
+above-neg (pos zero) = refl
+above-neg (pos (suc n)) = refl
+above-neg (negsuc n) = refl
+
+pub parts : (z : ℤ) → z ≡ pos (above z) -ℤ pos (below z)
+unfolding above below
+parts (pos n) = sym (+ℤ-idr (pos n))
+parts (negsuc n) = sym (+ℤ-idl (negsuc n))
+
+pub add-parts : (a b c d : ℕ) → (pos a -ℤ pos b) +ℤ (pos c -ℤ pos d) ≡ pos (a + c) -ℤ pos (b + d)
+add-parts a b c d = interchange (pos a) (negℤ (pos b)) (pos c) (negℤ (pos d)) ∙ ap (λ z. pos (a + c) +ℤ z) (sym (negℤ-+ℤ (pos b) (pos d)))
+
+no-difference : (a b : ℕ) → pos a -ℤ pos b ≡ pos 0 → a ≡ b
+no-difference a b e = same (sym (-ℤ-+ℤ-cancel (pos a) (pos b)) ∙ ap (λ z. z +ℤ pos b) e ∙ +ℤ-idl (pos b))
+  where
+    same : pos a ≡ pos b → a ≡ b
+    same p = cc
+
+-- three integers that sum to zero
+pub zero-parts : (u v w : ℤ) → u +ℤ v +ℤ w ≡ pos 0 → above u + above v + above w ≡ below u + below v + below w
+zero-parts u v w e =
+    no-difference (above u + above v + above w) (below u + below v + below w)
+    (sym (add-parts (above u + above v) (below u + below v) (above w) (below w))
+    ∙ ap (λ z. z +ℤ (pos (above w) -ℤ pos (below w))) (sym (add-parts (above u) (below u) (above v) (below v)))
+    ∙ ap₂ _+ℤ_ (ap₂ _+ℤ_ (sym (parts u)) (sym (parts v))) (sym (parts w))
+    ∙ e)

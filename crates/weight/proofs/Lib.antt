@@ -1,0 +1,9 @@
+-- The laws of the table; `CrossSum` and the last part of `Rules` are what other crates come for.
+pub mod Unique
+pub mod Pairs
+pub mod Integers
+pub mod Rules
+pub mod Nearest
+pub mod Products
+pub mod Sums
+pub mod CrossSum

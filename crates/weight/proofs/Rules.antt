@@ -1,0 +1,127 @@
+-- The rules of the table, each by one test over the whole of it, which antt computes. Assumes nothing.
+use mathlib.Core.Path.{_≡_, refl, sym, ap, ap₂, _∙_, subst}
+use mathlib.Core.Bool.{Bool, _&&_}
+use mathlib.Core.List.{zipWith}
+use Prim.Native.Nat.{ℕ, _+_, _-_, _*_, _/_, _%_, _<_, _≤_}
+use native.Mathlib.Nat.{mod-mod, mod-lt, mod-add-mod}
+use native.Mathlib.Omega.{arith}
+use lib.Dec.{T, leb, lit<}
+use lib.ListN.{getD}
+use lib.IntN.{ℤ, pos, negℤ, natAbs, _+ℤ_}
+use lib.Signed.{ltZ, _<ℤ_, ltZ-yes}
+use Rattle.turn.specs.Phase.{turn, quarter, third, twelfth, phase}
+use Rattle.turn.proofs.Tests.{and-left, and-right, two-le, every, every-at}
+use Rattle.weight.specs.declared.Weight.{Weight}
+use Rattle.weight.specs.Table.{radius, firstQuarter, firstHalf, xs, ys, table, weight}
+use Rattle.weight.specs.Products.{turned, power, PowerWithin, limit, powerBelow, powerAbove}
+use Rattle.weight.proofs.Pairs.{none, one-weight}
+use Rattle.weight.proofs.Integers.{eqZ, eqZ→eq}
+
+-- ---- the weight of a number is that of its phase
+
+pub weight-phase : (e : ℕ) → weight (phase e) ≡ weight e
+unfolding weight
+weight-phase e = ap (λ (n : ℕ). getD table n none) (mod-mod e turn)
+
+pub weight-same : (a b : ℕ) → phase a ≡ phase b → weight a ≡ weight b
+weight-same a b e = sym (weight-phase a) ∙ ap weight e ∙ weight-phase b
+
+-- ---- a quarter more turns (x,y) into (-y,x)
+
+quarter? : ℕ → Bool
+quarter? e = eqZ (weight (e + quarter) .x) (negℤ (weight e .y)) && eqZ (weight (e + quarter) .y) (weight e .x)
+
+quarters : T (every turn quarter?)
+unfolding every quarter? eqZ weight table zipWith xs ys firstHalf firstQuarter
+quarters = tt
+
+pub quarter-more : (e : ℕ) → weight (e + quarter) ≡ turned (weight e)
+unfolding quarter?
+quarter-more e =
+    weight-same (e + quarter) (phase e + quarter) (sym (mod-add-mod e turn quarter))
+    ∙ one-weight (eqZ→eq _ _ (and-left (eqZ _ _) (eqZ _ _) t)) (eqZ→eq _ _ (and-right (eqZ _ _) (eqZ _ _) t))
+    ∙ ap turned (weight-phase e)
+  where
+    t : T (quarter? (phase e))
+    t = every-at turn quarter? quarters (phase e) (mod-lt e (lit< tt))
+
+-- ---- three weights a third of a turn apart sum to zero, at every whole twelfth of a turn
+
+abbrev pub x : ℕ → ℤ
+x e = weight e .x
+
+abbrev pub y : ℕ → ℤ
+y e = weight e .y
+
+abbrev three : (ℕ → ℤ) → ℕ → ℤ
+three f e = f e +ℤ f (e + third) +ℤ f (e + (third + third))
+
+pub record Balanced (f : ℕ → ℤ) (e : ℕ) : Type 0 where
+  pub zero-sum : three f e ≡ pos 0
+
+thirds? : ℕ → Bool
+thirds? k = eqZ (three x (twelfth * k)) (pos 0) && eqZ (three y (twelfth * k)) (pos 0)
+
+thirds : T (every (turn / twelfth) thirds?)
+unfolding every thirds? eqZ weight table zipWith xs ys firstHalf firstQuarter
+thirds = tt
+
+pub balanced : (e : ℕ) → e % twelfth ≡ 0 → Balanced x e × Balanced y e
+unfolding thirds?
+balanced e h = (
+  record { zero-sum = at x (λ a b q. ap (λ (w : Weight). w .x) (weight-same a b q)) ∙ eqZ→eq _ _ (and-left (eqZ _ _) (eqZ _ _) t) },
+  record { zero-sum = at y (λ a b q. ap (λ (w : Weight). w .y) (weight-same a b q)) ∙ eqZ→eq _ _ (and-right (eqZ _ _) (eqZ _ _) t) },
+)
+  where
+    k : ℕ
+    k = phase e / twelfth
+
+    t : T (thirds? k)
+    t = every-at (turn / twelfth) thirds? thirds k (omega arith)
+
+    at : (f : ℕ → ℤ) → ((a b : ℕ) → phase a ≡ phase b → f a ≡ f b) → three f e ≡ three f (twelfth * k)
+    at f same = ap₂ _+ℤ_ (ap₂ _+ℤ_ (same e (twelfth * k) (omega arith)) (same _ _ (omega arith))) (same _ _ (omega arith))
+
+-- ---- x falls strictly over the first quarter
+
+falls? : ℕ → Bool
+falls? e = ltZ (x (e + 1)) (x e)
+
+all-fall : T (every quarter falls?)
+unfolding every falls? weight table zipWith xs ys firstHalf firstQuarter
+all-fall = tt
+
+pub falls : (e : ℕ) → e < quarter → x (e + 1) <ℤ x e
+unfolding falls?
+falls e h = ltZ-yes (every-at quarter falls? all-fall e h)
+
+-- ---- powers
+
+power? : ℕ → Bool
+power? e = leb (radius * radius) (power (weight e) + powerBelow) && leb (power (weight e)) (radius * radius + powerAbove)
+
+powers : T (every turn power?)
+unfolding every power? weight table zipWith xs ys firstHalf firstQuarter
+powers = tt
+
+pub power-tight : (e : ℕ) → PowerWithin powerBelow powerAbove (weight e)
+unfolding power?
+power-tight e = subst (PowerWithin powerBelow powerAbove) (weight-phase e) (record { low = t .0; high = t .1 })
+  where
+    w : Weight
+    w = weight (phase e)
+
+    t : (radius * radius ≤ power w + powerBelow) × (power w ≤ radius * radius + powerAbove)
+    t = two-le (radius * radius) (power w + powerBelow) (power w) (radius * radius + powerAbove) (every-at turn power? powers (phase e) (mod-lt e (lit< tt)))
+
+pub power-within : (e : ℕ) → PowerWithin limit limit (weight e)
+power-within e = let p = power-tight e in record { low = omega arith; high = omega arith }
+
+-- both ends occur
+pub power-lowest : power (weight 14) + powerBelow ≡ radius * radius
+unfolding weight table zipWith xs ys firstHalf firstQuarter
+power-lowest = refl
+
+pub power-highest : power (weight 9) ≡ radius * radius + powerAbove
+unfolding weight table zipWith xs ys firstHalf firstQuarter
+power-highest = refl

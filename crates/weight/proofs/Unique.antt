@@ -1,0 +1,7 @@
+-- The public function of the crate has one outcome on every input: any two that its contract admits are equal. Assumes nothing.
+use mathlib.Core.Path.{_≡_, sym, _∙_}
+use Rattle.turn.proofs.Unique.{Unique}
+use Rattle.weight.proofs.Weight.of.Reads as of
+
+pub of-unique : Unique of.Learnt
+of-unique k a r r′ e e′ p q = p ∙ sym q

@@ -1,0 +1,66 @@
+-- `Weight::of` gives the definition's weight: its table holds the numbers of the definition's, which antt compares one by one, and the index is
+-- the reduced phase twice over. Assumes nothing.
+use mathlib.Core.Path.{ap, _∙_}
+use mathlib.Core.List.{zipWith}
+use Prim.Native.Nat.{ℕ, _+_, _*_}
+use lib.IntN.{pos}
+use lib.ListN.{getD}
+use mir.Syntax.{w16}
+use mir.Val.{SFits}
+use mir.Facts.{toZ-ofZ}
+use borrow.Author.Needs.{needs}
+use Rattle.weight.specs.Table.{firstQuarter, firstHalf, xs, ys, table, weight, numbers}
+use Rattle.weight.proofs.Pairs.{none, one-weight, numbers-x, numbers-y}
+use Rattle.weight.proofs.Weight.of.Statement.{statement}
+use Rattle.weight.proofs.Weight.of.Tie as tie
+
+cast-of : tie.Need-cast-of
+cast-of c = search needs
+
+of-requires : tie.Need-of-requires
+of-requires c κs = search needs
+
+cast-at : tie.Need-cast-at
+cast-at c = search needs
+
+mul-at : tie.Need-mul-at
+mul-at c = search needs
+
+mul-t5 : tie.Need-mul-t5
+mul-t5 c = search needs
+
+array-copy-out-t9 : tie.Need-array-copy-out-t9
+array-copy-out-t9 c = search needs
+
+add-t11 : tie.Need-add-t11
+add-t11 c = search needs
+
+mul-t12 : tie.Need-mul-t12
+mul-t12 c = search needs
+
+array-copy-out-t15 : tie.Need-array-copy-out-t15
+array-copy-out-t15 c = search needs
+
+returns : tie.Need-returns
+unfolding weight table xs ys firstHalf firstQuarter zipWith numbers
+returns c =
+    let i : ℕ = c .before .before .before .of .result .parts in
+    let fx : SFits w16 (getD (numbers table) (2 * i) (pos 0)) = search needs in
+    let fy : SFits w16 (getD (numbers table) (2 * i + 1) (pos 0)) = search needs in
+    one-weight (toZ-ofZ fx ∙ numbers-x table i) (toZ-ofZ fy ∙ numbers-y table i)
+    ∙ ap (λ (n : ℕ). getD table n none) (c .before .before .before .of .ensures)
+
+pub of-spec : {M : Type 1} → statement M
+of-spec =
+    tie.close
+    (tie.spec
+    cast-of
+    of-requires
+    cast-at
+    mul-at
+    mul-t5
+    array-copy-out-t9
+    add-t11
+    mul-t12
+    array-copy-out-t15
+    returns)
