@@ -21,7 +21,8 @@ pub record Common (c : Setting) (m : ℕ) : Type 0 where
   pub rows : turn / c .n1 % m ≡ 0
   pub columns : turn / c .n2 % m ≡ 0
 
--- some turn only permutes xs: no whole one, and a multiple of whatever divides both the N1th and the N2th part of a turn
+-- some turn only permutes xs: no whole one, and a multiple of whatever divides both the N1th and the N2th part of a
+-- turn
 pub record Turned (c : Setting) (xs : List ℕ) : Type 0 where
   pub by : ℕ
   pub some : phase by ≢ 0
@@ -44,9 +45,22 @@ module _ (c : Setting) (whole : Divides c) (l m j1 j2 k1 k2 : ℕ) where
   pub same-length : length first ≡ length second
   same-length = length-beam c _ _ ∙ sym (length-beam c _ _)
 
-  pub differences-beams : differences first second ≡ map phase (product (map phase (steps (c .n1) gap1)) (map phase (steps (c .n2) gap2)))
+  pub differences-beams : differences first second
+      ≡ map phase (product (map phase (steps (c .n1) gap1)) (map phase (steps (c .n2) gap2)))
   unfolding beam
-  differences-beams = differences-grid _ _ _ gap1 _ _ _ gap2 (step-gap (c .n1) (c .o1) (whole .rows) l j1 k1) (step-gap (c .n2) (c .o2) (whole .columns) m j2 k2)
+  differences-beams =
+      differences-grid _ _ _ gap1 _ _ _ gap2
+      (step-gap (c .n1) (c .o1) (whole .rows) l j1 k1) (step-gap (c .n2) (c .o2) (whole .columns) m j2 k2)
+
+  by-rows : phase (c .n1 * gap1) ≡ 0 → Invariant gap1 (differences first second)
+  by-rows h =
+      rw differences-beams
+      (invariant-phases (invariant-left _ (invariant-phases (invariant-steps (c .n1) gap1 h))))
+
+  by-columns : phase (c .n2 * gap2) ≡ 0 → Invariant gap2 (differences first second)
+  by-columns h =
+      rw differences-beams
+      (invariant-phases (invariant-right _ (invariant-phases (invariant-steps (c .n2) gap2 h))))
 
   pub beams-turned : Apart c j1 j2 k1 k2 → Turned c (differences first second)
   beams-turned a = elim a [
@@ -54,12 +68,12 @@ module _ (c : Setting) (whole : Divides c) (l m j1 j2 k1 k2 : ℕ) where
       by = gap1;
       some = gap-some (c .n1) (c .o1) (whole .rows) j1 k1 ne;
       multiple = λ h. gap-multiple (c .n1) (c .o1) (whole .rows) _ j1 k1 (h .rows);
-      invariant = rw differences-beams (invariant-phases (invariant-left _ (invariant-phases (invariant-steps (c .n1) gap1 (gap-round (c .n1) (c .o1) (whole .rows) j1 k1)))));
+      invariant = by-rows (gap-round (c .n1) (c .o1) (whole .rows) j1 k1);
     }
     | inr ne ↦ record {
       by = gap2;
       some = gap-some (c .n2) (c .o2) (whole .columns) j2 k2 ne;
       multiple = λ h. gap-multiple (c .n2) (c .o2) (whole .columns) _ j2 k2 (h .columns);
-      invariant = rw differences-beams (invariant-phases (invariant-right _ (invariant-phases (invariant-steps (c .n2) gap2 (gap-round (c .n2) (c .o2) (whole .columns) j2 k2)))));
+      invariant = by-columns (gap-round (c .n2) (c .o2) (whole .columns) j2 k2);
     }
   ]

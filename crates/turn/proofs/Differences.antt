@@ -1,7 +1,7 @@
 -- The differences of two columns are a product again, of the differences of their factors. Assumes nothing.
 use mathlib.Core.Path.{_≡_, refl, sym, ap, ap₂, _∙_}
 use mathlib.Core.List.{List, [], _∷_, _++_, map}
-use Prim.Native.Nat.{ℕ, zero, suc, _+_, _-_, _*_, _/_, _%_}
+use Prim.Native.Nat.{ℕ, zero, suc, _+_, _*_, _/_, _%_}
 use native.Mathlib.Nat.{div-add-mod}
 use native.Mathlib.Omega.{arith}
 use lib.ListN.{length, length-map}
@@ -41,14 +41,16 @@ differences-phases [] ys = refl
 differences-phases (x ∷ xs) [] = refl
 differences-phases (x ∷ xs) (y ∷ ys) = ap₂ {C = List ℕ} (λ z l. z ∷ l) (difference-phases x y) (differences-phases xs ys)
 
-differences-append : (xs ys us vs : List ℕ) → length xs ≡ length ys → differences (xs ++ us) (ys ++ vs) ≡ differences xs ys ++ differences us vs
+differences-append : (xs ys us vs : List ℕ) → length xs ≡ length ys
+    → differences (xs ++ us) (ys ++ vs) ≡ differences xs ys ++ differences us vs
 unfolding differences
 differences-append [] [] us vs e = refl
 differences-append [] (y ∷ ys) us vs e = absurd (omega arith)
 differences-append (x ∷ xs) [] us vs e = absurd (omega arith)
 differences-append (x ∷ xs) (y ∷ ys) us vs e = ap {B = List ℕ} (λ l. difference x y ∷ l) (differences-append xs ys us vs (omega arith))
 
-differences-shift : (x y : ℕ) (us vs : List ℕ) → differences (map (λ a. x + a) us) (map (λ b. y + b) vs) ≡ map phase (map (λ d. difference x y + d) (differences us vs))
+differences-shift : (x y : ℕ) (us vs : List ℕ)
+    → differences (map (λ a. x + a) us) (map (λ b. y + b) vs) ≡ map phase (map (λ d. difference x y + d) (differences us vs))
 unfolding differences
 differences-shift x y [] vs = refl
 differences-shift x y (a ∷ us) [] = refl
@@ -59,7 +61,8 @@ unfolding differences
 differences-nil [] = refl
 differences-nil (x ∷ xs) = refl
 
-differences-product : (xs ys us vs : List ℕ) → length us ≡ length vs → differences (product xs us) (product ys vs) ≡ map phase (product (differences xs ys) (differences us vs))
+differences-product : (xs ys us vs : List ℕ) → length us ≡ length vs
+    → differences (product xs us) (product ys vs) ≡ map phase (product (differences xs ys) (differences us vs))
 unfolding differences product
 differences-product [] ys us vs e = refl
 differences-product (x ∷ xs) [] us vs e = differences-nil (product (x ∷ xs) us)
@@ -68,7 +71,8 @@ differences-product (x ∷ xs) (y ∷ ys) us vs e =
     ∙ ap₂ _++_ (differences-shift x y us vs) (differences-product xs ys us vs e)
     ∙ sym (map-append phase (map (λ d. difference x y + d) (differences us vs)) (product (differences xs ys) (differences us vs)))
 
-pub differences-column : (co co′ b b′ : List ℕ) → length b ≡ length b′ → differences (column co b) (column co′ b′) ≡ map phase (product (differences co co′) (differences b b′))
+pub differences-column : (co co′ b b′ : List ℕ) → length b ≡ length b′
+    → differences (column co b) (column co′ b′) ≡ map phase (product (differences co co′) (differences b b′))
 unfolding column
 differences-column co co′ b b′ e = differences-phases (product co b) (product co′ b′) ∙ differences-product co co′ b b′ e
 

@@ -26,7 +26,8 @@ steps-entry (suc n) s i h = elim (eq-or-lt-of-le (le-of-suc-le-suc h)) [
   | inr l ↦ List·getD-append (steps n s) (n * s ∷ []) 0 i (omega (arith, length-steps n s)) ∙ steps-entry n s i l
 ]
 
-pub product-entry : (xs ys : List ℕ) (i j : ℕ) → i < length xs → j < length ys → getD (product xs ys) (i * length ys + j) 0 ≡ getD xs i 0 + getD ys j 0
+pub product-entry : (xs ys : List ℕ) (i j : ℕ) → i < length xs → j < length ys
+    → getD (product xs ys) (i * length ys + j) 0 ≡ getD xs i 0 + getD ys j 0
 unfolding product
 product-entry [] ys i j h k = absurd (not-suc-le-zero h)
 product-entry (x ∷ xs) ys zero j h k =
@@ -39,7 +40,8 @@ product-entry (x ∷ xs) ys (suc i) j h k =
     ∙ product-entry xs ys i j (le-of-suc-le-suc h) k
 
 -- the same with the length of ys by another name
-product-entry-at : (xs ys : List ℕ) (w i j : ℕ) → length ys ≡ w → i < length xs → j < w → getD (product xs ys) (i * w + j) 0 ≡ getD xs i 0 + getD ys j 0
+product-entry-at : (xs ys : List ℕ) (w i j : ℕ) → length ys ≡ w → i < length xs → j < w
+    → getD (product xs ys) (i * w + j) 0 ≡ getD xs i 0 + getD ys j 0
 product-entry-at xs ys w i j e h k =
     subst (λ (n : ℕ). getD (product xs ys) (i * n + j) 0 ≡ getD xs i 0 + getD ys j 0) e (product-entry xs ys i j h (omega arith))
 
@@ -50,7 +52,8 @@ grid-entry n1 s n2 u a b h k =
     ∙ ap₂ _+_ (steps-entry n1 s a h) (steps-entry n2 u b k)
 
 -- entry i of block q
-pub column-entry : (co b : List ℕ) (q i : ℕ) → q < length co → i < length b → getD (column co b) (q * length b + i) 0 ≡ phase (getD co q 0 + getD b i 0)
+pub column-entry : (co b : List ℕ) (q i : ℕ) → q < length co → i < length b
+    → getD (column co b) (q * length b + i) 0 ≡ phase (getD co q 0 + getD b i 0)
 unfolding column
 column-entry co b q i h k =
     getD-map phase (product co b) (q * length b + i) (subst (λ (n : ℕ). q * length b + i < n) (sym (length-product co b)) (digits-lt h k))
@@ -68,7 +71,10 @@ printed : (a l w : ℕ) → w * (turn / w) ≡ turn → a * l * turn / w ≡ a *
 printed a l w e = ap (λ (x : ℕ). x / w) as-multiple ∙ mul-div-cancel (a * (l * (turn / w))) (left-pos w (turn / w) e)
   where
     as-multiple : a * l * turn ≡ a * (l * (turn / w)) * w
-    as-multiple = ap (λ (x : ℕ). a * l * x) (sym e ∙ mul-comm w (turn / w)) ∙ sym (mul-assoc (a * l) (turn / w) w) ∙ ap (λ (x : ℕ). x * w) (mul-assoc a l (turn / w))
+    as-multiple =
+        ap (λ (x : ℕ). a * l * x) (sym e ∙ mul-comm w (turn / w))
+        ∙ sym (mul-assoc (a * l) (turn / w) w)
+        ∙ ap (λ (x : ℕ). x * w) (mul-assoc a l (turn / w))
 
 module _ (c : Setting) (whole : Divides c) (l m a b : ℕ) (ha : a < c .n1) (hb : b < c .n2) where
   -- a·l·turn/(N1·O1) + b·m·turn/(N2·O2), with l and m reduced
@@ -80,10 +86,11 @@ module _ (c : Setting) (whole : Divides c) (l m a b : ℕ) (ha : a < c .n1) (hb 
   unfolding beam step
   beam-entry =
       grid-entry (c .n1) _ (c .n2) _ a b ha hb
-      ∙ sym (ap₂ _+_ (printed a (l % (c .n1 * c .o1)) (c .n1 * c .o1) (whole .rows)) (printed b (m % (c .n2 * c .o2)) (c .n2 * c .o2) (whole .columns)))
+      ∙ sym (ap₂ _+_ (printed a _ (c .n1 * c .o1) (whole .rows)) (printed b _ (c .n2 * c .o2) (whole .columns)))
 
   -- the entry of a column at (a,b) of block q
-  pub entry : (co : List ℕ) (q : ℕ) → q < length co → getD (column co (beam c l m)) (q * (c .n1 * c .n2) + (a * c .n2 + b)) 0 ≡ phase (getD co q 0 + at)
+  pub entry : (co : List ℕ) (q : ℕ) → q < length co
+      → getD (column co (beam c l m)) (q * (c .n1 * c .n2) + (a * c .n2 + b)) 0 ≡ phase (getD co q 0 + at)
   entry co q h =
       ap (λ (n : ℕ). getD (column co (beam c l m)) (q * n + (a * c .n2 + b)) 0) (sym (length-beam c l m))
       ∙ column-entry co (beam c l m) q (a * c .n2 + b) h (subst (λ (n : ℕ). a * c .n2 + b < n) (sym (length-beam c l m)) (digits-lt ha hb))

@@ -1,5 +1,5 @@
--- Exactly orthogonal columns whose differences come in thirds and not in opposites: layers 1 and 2 of setting (3,2) at three layers, i13 = 3 and
--- the rest 0. Assumes nothing.
+-- Exactly orthogonal columns whose differences come in thirds and not in opposites: layers 1 and 2 of setting (3,2)
+-- at three layers, i13 = 3 and the rest 0. Assumes nothing.
 use mathlib.Core.Path.{_≡_, refl}
 use mathlib.Core.Logic.{_⊎_, inl, inr}
 use mathlib.Core.Bool.{Bool, _||_}
@@ -7,8 +7,8 @@ use mathlib.Core.List.{List, [], _∷_}
 use Prim.Native.Nat.{ℕ, _+_, _*_, _<_}
 use native.Mathlib.Omega.{arith}
 use lib.Dec.{T, eqb, eqb→eq}
-use Rattle.turn.specs.Phase.{half, third, phase, difference}
-use Rattle.turn.specs.Column.{Setting, Divides, steps, product, grid, step, beam, column}
+use Rattle.turn.specs.Phase.{half, third, difference}
+use Rattle.turn.specs.Column.{Setting, steps, product, grid, step, beam, column}
 use Rattle.turn.specs.Exact.{count, differences, Orthogonal}
 use Rattle.turn.proofs.Tests.{every, every-at, or-cases}
 use Rattle.turn.proofs.Orthogonal.{beams-orthogonal}
@@ -28,7 +28,9 @@ unfolding layer2 setting column beam grid step steps product
 layer2-is = refl
 
 -- the differences are 0, 64 and 128, four ports each
-pub counts : (count (differences layer1 layer2) 0 ≡ 4) × (count (differences layer1 layer2) third ≡ 4) × (count (differences layer1 layer2) (2 * third) ≡ 4)
+pub counts : (count (differences layer1 layer2) 0 ≡ 4)
+    × (count (differences layer1 layer2) third ≡ 4)
+    × (count (differences layer1 layer2) (2 * third) ≡ 4)
 unfolding layer1 layer2 setting column beam grid step steps product differences difference count
 counts = (refl, refl, refl)
 
@@ -40,7 +42,8 @@ all-unpaired : T (every half unpaired)
 unfolding every unpaired layer1 layer2 setting column beam grid step steps product differences difference count
 all-unpaired = tt
 
-pub no-opposites : (e : ℕ) → e < half → (count (differences layer1 layer2) e ≡ 0) ⊎ (count (differences layer1 layer2) (e + half) ≡ 0)
+pub no-opposites : (e : ℕ) → e < half
+    → (count (differences layer1 layer2) e ≡ 0) ⊎ (count (differences layer1 layer2) (e + half) ≡ 0)
 unfolding unpaired
 no-opposites e h = elim (or-cases (eqb (count (differences layer1 layer2) e) 0) _ (every-at half unpaired all-unpaired e h)) [
   | inl t ↦ inl (eqb→eq _ 0 t)
@@ -50,4 +53,5 @@ no-opposites e h = elim (or-cases (eqb (count (differences layer1 layer2) e) 0) 
 -- and yet the two layers are exactly orthogonal
 pub orthogonal : Orthogonal layer1 layer2
 unfolding layer1 layer2 setting
-orthogonal = beams-orthogonal setting (record { rows = refl; columns = refl }) 0 0 0 0 2 0 (inl (omega arith)) (0 ∷ 0 ∷ []) (0 ∷ 0 ∷ [])
+orthogonal =
+    beams-orthogonal setting (record { rows = refl; columns = refl }) 0 0 0 0 2 0 (inl (omega arith)) (0 ∷ 0 ∷ []) (0 ∷ 0 ∷ [])

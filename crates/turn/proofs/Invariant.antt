@@ -4,12 +4,12 @@ use mathlib.Core.List.{List, [], _∷_, _++_, map}
 use Prim.Native.Nat.{ℕ, zero, suc, _+_, _*_}
 use native.Mathlib.Nat.{zero-mul, suc-mul}
 use native.Mathlib.Omega.{arith}
-use Rattle.turn.specs.Phase.{turn, phase}
+use Rattle.turn.specs.Phase.{phase}
 use Rattle.turn.specs.Column.{steps, product}
 use Rattle.turn.proofs.Totals.{total, total-cong, total-append, total-map, total-product, Steady, steady-same, steady-shift, steady-total}
 
--- A turn by g only permutes the phases xs: no function of a phase has another total after it. (Of the function that is 1 at e and else 0: as many
--- are at e + g as at e.)
+-- A turn by g only permutes the phases xs: no function of a phase has another total after it. (Of the function that
+-- is 1 at e and else 0: as many are at e + g as at e.)
 pub record Invariant (g : ℕ) (xs : List ℕ) : Type 0 where
   pub turned : (f : ℕ → ℕ) → Steady f → total (λ x. f (x + g)) xs ≡ total f xs
 

@@ -1,11 +1,10 @@
 -- Lengths of the lists of phases, and what `map` does to them. Assumes nothing.
-use mathlib.Core.Path.{_≡_, refl, ap, ap₂, _∙_}
+use mathlib.Core.Path.{_≡_, refl, ap, _∙_}
 use mathlib.Core.List.{List, [], _∷_, _++_, map}
 use Prim.Native.Nat.{ℕ, zero, suc, _+_, _*_}
 use native.Mathlib.Omega.{arith}
 use lib.ListN.{length, length-append, length-map}
-use Rattle.turn.specs.Phase.{phase}
-use Rattle.turn.specs.Column.{Setting, steps, product, grid, beam, column}
+use Rattle.turn.specs.Column.{Setting, steps, product, grid, beam}
 
 pub map-append : (f : ℕ → ℕ) (xs ys : List ℕ) → map f (xs ++ ys) ≡ map f xs ++ map f ys
 map-append f [] ys = refl
@@ -24,12 +23,8 @@ length-product (x ∷ xs) ys =
 
 pub length-grid : (n1 s n2 u : ℕ) → length (grid n1 s n2 u) ≡ n1 * n2
 unfolding grid
-length-grid n1 s n2 u = length-product (steps n1 s) (steps n2 u) ∙ ap₂ _*_ (length-steps n1 s) (length-steps n2 u)
+length-grid n1 s n2 u = simp (length-product, length-steps) (omega arith)
 
 pub length-beam : (c : Setting) (l m : ℕ) → length (beam c l m) ≡ c .n1 * c .n2
 unfolding beam
 length-beam c l m = length-grid (c .n1) _ (c .n2) _
-
-pub length-column : (co b : List ℕ) → length (column co b) ≡ length co * length b
-unfolding column
-length-column co b = length-map (product co b) phase ∙ length-product co b

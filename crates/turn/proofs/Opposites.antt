@@ -47,13 +47,16 @@ total-flipped f [] [] (n ∷ ns) h k = absurd (omega arith)
 total-flipped f (x ∷ xs) [] ns h k = absurd (omega arith)
 total-flipped f (x ∷ xs) (m ∷ ms) [] h k = absurd (omega arith)
 total-flipped f (x ∷ xs) (m ∷ ms) (n ∷ ns) h k =
-    ap₂ _+_ (ap f (difference-flipped x m n)) (total-flipped f xs ms ns (omega arith) (omega arith)) ∙ one (differ m n) (agreeing ms ns) (differing ms ns)
+    ap₂ _+_ (ap f (difference-flipped x m n)) (total-flipped f xs ms ns (omega arith) (omega arith))
+    ∙ one (differ m n) (agreeing ms ns) (differing ms ns)
   where
-    one : (b : Bool) (p q : ℕ) → f (cond b half 0) + (p * f 0 + q * f half) ≡ (cond b 0 1 + p) * f 0 + (cond b 1 0 + q) * f half
+    one : (b : Bool) (p q : ℕ)
+        → f (cond b half 0) + (p * f 0 + q * f half) ≡ (cond b 0 1 + p) * f 0 + (cond b 1 0 + q) * f half
     one true p q = omega arith
     one false p q = omega arith
 
-pub opposites-invariant : (xs : List ℕ) (ms ns : List Bool) → length ms ≡ length xs → length ns ≡ length xs → agreeing ms ns ≡ differing ms ns
+pub opposites-invariant : (xs : List ℕ) (ms ns : List Bool) → length ms ≡ length xs → length ns ≡ length xs
+    → agreeing ms ns ≡ differing ms ns
     → Invariant half (differences (flipped xs ms) (flipped xs ns))
 opposites-invariant xs ms ns h k e = record {
   turned = λ f s.

@@ -1,5 +1,6 @@
--- Columns of different beams of one setting, and columns with opposite co-phases, are exactly orthogonal. Assumes nothing.
-use mathlib.Core.Path.{_≡_, refl, sym, ap, ap₂, _∙_, subst}
+-- Columns of different beams of one setting, and columns with opposite co-phases, are exactly orthogonal. Assumes
+-- nothing.
+use mathlib.Core.Path.{_≡_, refl, ap₂, subst}
 use mathlib.Core.Logic.{_≢_}
 use mathlib.Core.Bool.{Bool}
 use mathlib.Core.List.{List, [], _∷_, map}
@@ -45,7 +46,8 @@ beams-orthogonal c whole l m j1 j2 k1 k2 a co co′ =
     orthogonal-turned _ _ (t .some) (turned-by-beams co co′ _ _ (same-length c whole l m j1 j2 k1 k2) (t .invariant))
 
 -- columns whose co-phases agree as often as they are opposite, whatever the beams
-pub opposites-orthogonal : (co : List ℕ) (ms ns : List Bool) → length ms ≡ length co → length ns ≡ length co → agreeing ms ns ≡ differing ms ns
+pub opposites-orthogonal : (co : List ℕ) (ms ns : List Bool) → length ms ≡ length co → length ns ≡ length co
+    → agreeing ms ns ≡ differing ms ns
     → (b b′ : List ℕ) → length b ≡ length b′ → Orthogonal (column (flipped co ms) b) (column (flipped co ns) b′)
 opposites-orthogonal co ms ns h k e b b′ same =
     orthogonal-turned _ _ half-some (turned-by-co-phases _ _ b b′ same (opposites-invariant co ms ns h k e))

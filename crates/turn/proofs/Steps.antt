@@ -1,5 +1,6 @@
--- In one direction of n antennas and n·o beams: the steps of two beams that lie whole multiples of the oversampling o apart. Assumes nothing.
-use mathlib.Core.Path.{_≡_, refl, sym, ap, ap₂, _∙_, subst}
+-- In one direction of n antennas and n·o beams: the steps of two beams that lie whole multiples of the oversampling o
+-- apart. Assumes nothing.
+use mathlib.Core.Path.{_≡_, sym, ap, _∙_, subst}
 use mathlib.Core.Logic.{_≢_, inl, inr}
 use Prim.Native.Nat.{ℕ, zero, suc, _+_, _-_, _*_, _/_, _%_, _<_}
 use native.Mathlib.Nat.{mod-mod, mod-lt, div-add-mod, mul-mod-left, mod-add-mod, add-mul-mod-self-left, mul-lt-mul-of-pos-right, eq-zero-or-pos, div-eq-of-eq-mul-right, dvd-of-mod-eq-zero, dvd-mul-left-of-dvd, mod-eq-zero-of-dvd}
@@ -72,7 +73,8 @@ module _ (n o : ℕ) (whole : n * o * (turn / (n * o)) ≡ turn) where
       ∙ sym (mod-add-mod ((l + j * o) * unit) turn ((k + (n - j % n)) * (o * unit)))
       ∙ ap (λ (x : ℕ). phase (x + (k + (n - j % n)) * (o * unit))) (sym (step-reduced (l + j * o)))
     where
-      go : (u q r t : ℕ) → n * o * u ≡ turn → n * q + r ≡ j → t + r ≡ n → (l + j * o) * u + (k + t) * (o * u) ≡ (l + k * o) * u + turn * (q + 1)
+      go : (u q r t : ℕ) → n * o * u ≡ turn → n * q + r ≡ j → t + r ≡ n
+          → (l + j * o) * u + (k + t) * (o * u) ≡ (l + k * o) * u + turn * (q + 1)
       go u q r t w e e′ = omega (arith, ap (λ (x : ℕ). x * (o * u)) e, ap (λ (x : ℕ). x * (o * u)) e′, ap (λ (x : ℕ). q * x) w)
 
   -- n gaps come round

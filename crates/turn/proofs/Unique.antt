@@ -1,4 +1,5 @@
--- Each public function of the crate has one outcome on every input: any two that its contract admits are equal. Assumes nothing.
+-- Each public function of the crate has one outcome on every input: any two that its contract admits are equal.
+-- Assumes nothing.
 use mathlib.Core.Path.{_≡_, sym, _∙_}
 use Prim.Native.Nat.{ℕ}
 use Rattle.turn.specs.declared.Phase.{Phase}
@@ -8,8 +9,8 @@ use Rattle.turn.proofs.Phase.opposite.Reads as opposite
 use Rattle.turn.proofs.Phase.quarters.Reads as quarters
 use Rattle.turn.proofs.Phase.eighths.Reads as eighths
 
--- What a contract says of a call with arguments a, its result and what it leaves: the result is determined. (`F.Learnt` is what the source's
--- `ensures` of F tells a caller; k stands for lifetimes.)
+-- What a contract says of a call with arguments a, its result and what it leaves: the result is determined.
+-- (`F.Learnt` is what the source's `ensures` of F tells a caller; k stands for lifetimes.)
 abbrev pub Unique : {K : Type 0} {A R E : K → Type 0} → ((k : K) → A k → R k → E k → Type 0) → Type 0
 Unique {K} {A} {R} {E} says = (k : K) (a : A k) (r r′ : R k) (e e′ : E k) → says k a r e → says k a r′ e′ → r ≡ r′
 

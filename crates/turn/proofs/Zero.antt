@@ -12,7 +12,7 @@ use lib.IntN.{ℤ, pos, negℤ, _+ℤ_, _-ℤ_, +ℤ-invr, +ℤ-comm, negℤ-+�
 use Rattle.turn.specs.Phase.{turn, half, third, sixth, phase}
 use Rattle.turn.specs.Exact.{count, d, ExactZero}
 use Rattle.turn.proofs.Tests.{or-cases, or-else, eq→eqb, every, every-at}
-use Rattle.turn.proofs.Totals.{total, total-cong, total-map, Steady}
+use Rattle.turn.proofs.Totals.{total, total-cong, total-map}
 use Rattle.turn.proofs.Invariant.{Invariant, invariant-add, invariant-same}
 
 -- ---- counts
@@ -37,7 +37,8 @@ alike m n p q f g = both (eqb m n) (eqb p q) (λ t. eq→eqb p q (f (eqb→eq m 
     both false false h k = refl
 
 -- as many are at e + g as at e
-count-turned : {g : ℕ} {xs : List ℕ} → Invariant g xs → (e : ℕ) → e + g < turn → count (map phase xs) (e + g) ≡ count (map phase xs) e
+count-turned : {g : ℕ} {xs : List ℕ} → Invariant g xs → (e : ℕ) → e + g < turn
+    → count (map phase xs) (e + g) ≡ count (map phase xs) e
 count-turned {g} {xs} p e h =
     count-total (map phase xs) (e + g)
     ∙ total-map (one-at (e + g)) phase xs
@@ -51,8 +52,8 @@ count-turned {g} {xs} p e h =
 pub zero-by-half : {xs : List ℕ} → Invariant half xs → ExactZero (map phase xs)
 unfolding d
 zero-by-half {xs} p = record {
-  same = λ i h. none i (omega arith) ∙ sym (none (third + i) (omega arith));
-  opposite = λ i h. none (sixth + i) (omega arith) ∙ ap negℤ (sym (none (third + i) (omega arith)));
+  same = λ i h. rw (none i (omega arith), none (third + i) (omega arith));
+  opposite = λ i h. rw (none (sixth + i) (omega arith), none (third + i) (omega arith));
 }
   where
     none : (e : ℕ) → e < half → d (map phase xs) e ≡ pos 0

@@ -1,8 +1,8 @@
--- Two columns whose differences cancel have a small cross-sum in 16-bit weights: port by port the product is near radius times the weight at the
--- difference, and these weights sum to zero. Assumes nothing.
-use mathlib.Core.Path.{_≡_, refl, sym, ap, _∙_, subst}
+-- Two columns whose differences cancel have a small cross-sum in 16-bit weights: port by port the product is near
+-- radius times the weight at the difference, and these weights sum to zero. Assumes nothing.
+use mathlib.Core.Path.{_≡_, sym, ap, _∙_, subst}
 use mathlib.Core.List.{List, [], _∷_}
-use Prim.Native.Nat.{ℕ, suc, _+_, _*_, _≤_, zero-le}
+use Prim.Native.Nat.{ℕ, suc, _*_, _≤_, zero-le}
 use native.Mathlib.Nat.{le-trans}
 use native.Mathlib.Omega.{arith}
 use lib.ListN.{length}
@@ -19,7 +19,8 @@ use Rattle.weight.proofs.Products.{product-within}
 use Rattle.weight.proofs.Sums.{sum, weights-sum}
 
 -- a part of the product, and the same part of a weight
-module _ (part : Weight → Weight → ℤ) (f : ℕ → ℤ) (near : (e g : ℕ) → off (part (weight e) (weight g)) (f (difference e g)) ≤ limit) where
+module _ (part : Weight → Weight → ℤ) (f : ℕ → ℤ)
+    (near : (e g : ℕ) → off (part (weight e) (weight g)) (f (difference e g)) ≤ limit) where
   none-off : (n : ℕ) → off (pos 0) (pos 0) ≤ n
   none-off n = subst (λ (z : ℤ). natAbs (pos 0 -ℤ z) ≤ n) (sym (*ℤ-zero (pos radius))) zero-le
 
@@ -31,16 +32,21 @@ module _ (part : Weight → Weight → ℤ) (f : ℕ → ℤ) (near : (e g : ℕ
       let p : ℤ = part (weight e) (weight g) in
       let s : ℤ = sum f (differences es gs) in
       subst (λ (z : ℤ). natAbs z ≤ limit * suc (length es))
-      (sym (ap (λ (z : ℤ). (p +ℤ cross part es gs) -ℤ z) (mul-sum radius (f (difference e g)) s) ∙ sub-sums p (cross part es gs) (pos radius *ℤ f (difference e g)) (pos radius *ℤ s)))
-      (le-trans (size-add (p -ℤ pos radius *ℤ f (difference e g)) (cross part es gs -ℤ pos radius *ℤ s)) (omega (arith, near e g, cross-near es gs)))
+      (sym (ap (λ (z : ℤ). (p +ℤ cross part es gs) -ℤ z) (mul-sum radius (f (difference e g)) s)
+      ∙ sub-sums p (cross part es gs) (pos radius *ℤ f (difference e g)) (pos radius *ℤ s)))
+      (le-trans (size-add (p -ℤ pos radius *ℤ f (difference e g)) (cross part es gs -ℤ pos radius *ℤ s))
+      (omega (arith, near e g, cross-near es gs)))
 
   cross-small : (es gs : List ℕ) → sum f (differences es gs) ≡ pos 0 → natAbs (cross part es gs) ≤ limit * length es
   cross-small es gs z =
       subst (λ (v : ℤ). natAbs v ≤ limit * length es)
-      (ap (λ (s : ℤ). cross part es gs -ℤ pos radius *ℤ s) z ∙ ap (λ (v : ℤ). cross part es gs -ℤ v) (*ℤ-zero (pos radius)) ∙ +ℤ-idr (cross part es gs))
+      (ap (λ (s : ℤ). cross part es gs -ℤ pos radius *ℤ s) z
+      ∙ ap (λ (v : ℤ). cross part es gs -ℤ v) (*ℤ-zero (pos radius))
+      ∙ +ℤ-idr (cross part es gs))
       (cross-near es gs)
 
-pub cross-bound : (es gs : List ℕ) → Cancels (differences es gs) → (natAbs (cross re es gs) ≤ limit * length es) × (natAbs (cross im es gs) ≤ limit * length es)
+pub cross-bound : (es gs : List ℕ) → Cancels (differences es gs)
+    → (natAbs (cross re es gs) ≤ limit * length es) × (natAbs (cross im es gs) ≤ limit * length es)
 cross-bound es gs c = (
   cross-small re x (λ e g. product-within e g .x) es gs (weights-sum c .0),
   cross-small im y (λ e g. product-within e g .y) es gs (weights-sum c .1),

@@ -1,6 +1,6 @@
--- Every number of the table is the whole number nearest to radius times its cosine or sine: exactly it at every sixth of a turn, and by the test of
--- `Nearest` elsewhere. Assumes nothing.
-use mathlib.Core.Path.{_≡_, refl, sym, ap, _∙_, subst}
+-- Every number of the table is the whole number nearest to radius times its cosine or sine: exactly it at every sixth
+-- of a turn, and by the test of `Nearest` elsewhere. Assumes nothing.
+use mathlib.Core.Path.{_≡_, refl, ap, _∙_, subst}
 use mathlib.Core.Logic.{_≢_}
 use mathlib.Core.Bool.{Bool, _||_}
 use mathlib.Core.List.{zipWith}
@@ -10,11 +10,11 @@ use native.Mathlib.Omega.{arith}
 use lib.Dec.{T, eqb, eqb→eq, lit<}
 use lib.IntN.{ℤ, pos, negℤ, _+ℤ_, _-ℤ_, _*ℤ_}
 use lib.Signed.{ltZ, ltZ-yes}
-use Rattle.turn.specs.Phase.{turn, half, third, quarter, sixth, phase}
+use Rattle.turn.specs.Phase.{turn, third, quarter, sixth, phase}
 use Rattle.turn.proofs.Tests.{or-else, every, every-at}
 use Rattle.weight.specs.declared.Weight.{Weight}
 use Rattle.weight.specs.Table.{radius, firstQuarter, firstHalf, xs, ys, table, weight}
-use Rattle.weight.specs.Nearest.{wave, Nearest, level, doublings}
+use Rattle.weight.specs.Nearest.{wave, Nearest, doublings}
 use Rattle.weight.proofs.Rules.{x, y, weight-phase, weight-same, quarter-more}
 
 -- the sine is the cosine three quarters on
@@ -24,7 +24,7 @@ sine e =
     ∙ ap (λ (w : Weight). w .y) (quarter-more (e + 3 * quarter))
 
 crosses : ℕ → ℤ
-crosses e = wave (level doublings e) (pos 2 *ℤ x e -ℤ pos 1) *ℤ wave (level doublings e) (pos 2 *ℤ x e +ℤ pos 1)
+crosses e = wave (doublings quarter e) (pos 2 *ℤ x e -ℤ pos 1) *ℤ wave (doublings quarter e) (pos 2 *ℤ x e +ℤ pos 1)
 
 nearest? : ℕ → Bool
 nearest? e = eqb (e % sixth) 0 || ltZ (crosses e) (pos 0)
@@ -33,11 +33,14 @@ all-nearest : T (every turn nearest?)
 unfolding every nearest? crosses weight table zipWith xs ys firstHalf firstQuarter
 all-nearest = tt
 
-pub nearest : (e : ℕ) → e % sixth ≢ 0 → Nearest (level doublings (phase e)) (x e)
+pub nearest : (e : ℕ) → e % sixth ≢ 0 → Nearest (doublings quarter (phase e)) (x e)
 unfolding nearest? crosses
 nearest e n =
-    subst (Nearest (level doublings (phase e))) (ap (λ (w : Weight). w .x) (weight-phase e)) (record {
-      crosses = ltZ-yes (or-else (eqb (phase e % sixth) 0) _ (λ t. n (omega (arith, eqb→eq (phase e % sixth) 0 t))) (every-at turn nearest? all-nearest (phase e) (mod-lt e (lit< tt))));
+    subst (Nearest (doublings quarter (phase e))) (ap (λ (w : Weight). w .x) (weight-phase e)) (record {
+      crosses =
+          ltZ-yes
+          (or-else (eqb (phase e % sixth) 0) _ (λ t. n (omega (arith, eqb→eq (phase e % sixth) 0 t)))
+          (every-at turn nearest? all-nearest (phase e) (mod-lt e (lit< tt))));
     })
 
 -- ---- at a sixth of a turn the cosine is a half, at a third minus a half

@@ -3,7 +3,7 @@ use mathlib.Core.Path.{_≡_, refl, ap, _∙_}
 use mathlib.Core.List.{List, [], _∷_}
 use Prim.Native.Nat.{ℕ, zero, suc, _+_, _*_}
 use native.Mathlib.Omega.{arith}
-use lib.IntN.{ℤ, pos}
+use lib.IntN.{pos}
 use lib.ListN.{getD}
 use Rattle.weight.specs.declared.Weight.{Weight}
 use Rattle.weight.specs.Table.{numbers}
@@ -15,7 +15,8 @@ pub one-weight : {v w : Weight} → v .x ≡ w .x → v .y ≡ w .y → v ≡ w
 one-weight p q = λ i. record { x = p i; y = q i }
 
 -- the first weight has two numbers
-past-two : (w : Weight) (ws : List Weight) (n m : ℕ) → n ≡ suc (suc m) → getD (numbers (w ∷ ws)) n (pos 0) ≡ getD (numbers ws) m (pos 0)
+past-two : (w : Weight) (ws : List Weight) (n m : ℕ) → n ≡ suc (suc m)
+    → getD (numbers (w ∷ ws)) n (pos 0) ≡ getD (numbers ws) m (pos 0)
 unfolding numbers
 past-two w ws n m e = ap (λ (k : ℕ). getD (w .x ∷ w .y ∷ numbers ws) k (pos 0)) e
 

@@ -1,16 +1,16 @@
--- conjugate(weight e) times weight g is near radius times the weight at g - e: tested on a quarter of a turn by a quarter, and carried everywhere by
--- the quarter rule. Assumes nothing.
+-- conjugate(weight e) times weight g is near radius times the weight at g - e: tested on a quarter of a turn by a
+-- quarter, and carried everywhere by the quarter rule. Assumes nothing.
 use mathlib.Core.Path.{_≡_, refl, sym, ap, _∙_, subst, subst₃}
 use mathlib.Core.Bool.{Bool, true, false, _&&_}
 use mathlib.Core.List.{List, [], _∷_, zipWith}
-use Prim.Native.Nat.{ℕ, zero, suc, _+_, _-_, _*_, _%_, _/_, _<_, _≤_}
+use Prim.Native.Nat.{ℕ, zero, suc, _+_, _*_, _%_, _/_, _<_, _≤_}
 use native.Mathlib.Nat.{not-suc-le-zero, le-of-suc-le-suc, mod-lt, div-add-mod}
 use native.Mathlib.Omega.{arith}
 use lib.Dec.{T, leb, lit<}
 use lib.IntN.{ℤ, pos, negℤ, natAbs, _+ℤ_, _-ℤ_, _*ℤ_, negℤ-negℤ, negℤ-+ℤ, +ℤ-comm}
 use lib.ListN.{getD, drop}
 use lib.Seq.{getD-drop}
-use Rattle.turn.specs.Phase.{turn, quarter, phase, difference}
+use Rattle.turn.specs.Phase.{quarter, phase, difference}
 use Rattle.turn.proofs.Tests.{and-left, and-right, two-le, every, every-at}
 use Rattle.turn.proofs.Differences.{difference-back}
 use Rattle.weight.specs.declared.Weight.{Weight}
@@ -29,7 +29,8 @@ walk (suc n) f [] ws = false
 walk (suc n) f (v ∷ vs) [] = false
 walk (suc n) f (v ∷ vs) (w ∷ ws) = f v w && walk n f vs ws
 
-walk-at : (n : ℕ) (f : Weight → Weight → Bool) (vs ws : List Weight) → T (walk n f vs ws) → (k : ℕ) → k < n → T (f (getD vs k none) (getD ws k none))
+walk-at : (n : ℕ) (f : Weight → Weight → Bool) (vs ws : List Weight) → T (walk n f vs ws) → (k : ℕ) → k < n
+    → T (f (getD vs k none) (getD ws k none))
 unfolding walk
 walk-at zero f vs ws t k h = absurd (not-suc-le-zero h)
 walk-at (suc n) f [] ws t k h = absurd t
@@ -62,7 +63,10 @@ both-im : (ax ay gx gy : ℤ) → negℤ ay *ℤ gx -ℤ ax *ℤ negℤ gy ≡ a
 both-im ax ay gx gy = simp (mul-neg, neg-mul, negℤ-negℤ) (+ℤ-comm (negℤ (ay *ℤ gx)) (ax *ℤ gy))
 
 near-second : {n : ℕ} (w a g : Weight) → Near n w a g → Near n (turned w) a (turned g)
-near-second {n} w a g p = record { x = subst (λ (m : ℕ). m ≤ n) (sym turned-x) (p .y); y = subst (λ (z : ℤ). off z (w .x) ≤ n) (sym (on-im (a .x) (a .y) (g .x) (g .y))) (p .x) }
+near-second {n} w a g p = record {
+  x = subst (λ (m : ℕ). m ≤ n) (sym turned-x) (p .y);
+  y = subst (λ (z : ℤ). off z (w .x) ≤ n) (sym (on-im (a .x) (a .y) (g .x) (g .y))) (p .x);
+}
   where
     turned-x : off (re a (turned g)) (turned w .x) ≡ off (im a g) (w .y)
     turned-x = ap natAbs (on-re (pos radius) (a .x) (a .y) (g .x) (g .y) (w .y)) ∙ size-neg (im a g -ℤ pos radius *ℤ w .y)
@@ -95,7 +99,9 @@ first d e h k =
     g = getD (drop d table) e none
 
     t : (off (re a g) (w .x) ≤ productOff) × (off (im a g) (w .y) ≤ productOff)
-    t = two-le (off (re a g) (w .x)) productOff (off (im a g) (w .y)) productOff (walk-at quarter (near? w) table (drop d table) (every-at quarter row? rows d h) e k)
+    t =
+        two-le (off (re a g) (w .x)) productOff (off (im a g) (w .y)) productOff
+        (walk-at quarter (near? w) table (drop d table) (every-at quarter row? rows d h) e k)
 
 -- what holds below a quarter, and a quarter further wherever it holds, holds everywhere
 climb : (P : ℕ → Type 0) → ((k : ℕ) → k < quarter → P k) → ((k : ℕ) → P k → P (k + quarter)) → (k : ℕ) → P k
@@ -113,13 +119,18 @@ unfolding Holds
 holds d e =
     climb (λ (k : ℕ). Holds k e)
     (λ k h. climb (λ (m : ℕ). Holds k m) (λ m l. first k m h l)
-    (λ m p. subst₃ (Near productOff) refl (sym (quarter-more m)) (sym (further k m _ (omega arith))) (near-both (weight k) (weight m) (weight (k + m)) p)) e)
-    (λ k p. subst₃ (Near productOff) (sym (quarter-more k)) refl (sym (further k e _ (omega arith))) (near-second (weight k) (weight e) (weight (k + e)) p)) d
+    (λ m p.
+    subst₃ (Near productOff) refl (sym (quarter-more m)) (sym (further k m _ (omega arith)))
+    (near-both (weight k) (weight m) (weight (k + m)) p)) e)
+    (λ k p.
+    subst₃ (Near productOff) (sym (quarter-more k)) refl (sym (further k e _ (omega arith)))
+    (near-second (weight k) (weight e) (weight (k + e)) p)) d
 
 pub product-tight : (e g : ℕ) → Near productOff (weight (difference e g)) (weight e) (weight g)
 unfolding Holds
 product-tight e g =
-    subst (Near productOff (weight (difference e g)) (weight e)) (weight-same (difference e g + e) g (ap phase (omega arith) ∙ difference-back e g)) (holds (difference e g) e)
+    subst (Near productOff (weight (difference e g)) (weight e))
+    (weight-same (difference e g + e) g (ap phase (omega arith) ∙ difference-back e g)) (holds (difference e g) e)
 
 pub product-within : (e g : ℕ) → Near limit (weight (difference e g)) (weight e) (weight g)
 product-within e g = let p = product-tight e g in record { x = omega arith; y = omega arith }

@@ -2,12 +2,12 @@
 use mathlib.Core.Path.{_≡_, refl, sym, ap, ap₂, _∙_, subst}
 use mathlib.Core.Bool.{Bool, _&&_}
 use mathlib.Core.List.{zipWith}
-use Prim.Native.Nat.{ℕ, _+_, _-_, _*_, _/_, _%_, _<_, _≤_}
+use Prim.Native.Nat.{ℕ, _+_, _*_, _/_, _%_, _<_, _≤_}
 use native.Mathlib.Nat.{mod-mod, mod-lt, mod-add-mod}
 use native.Mathlib.Omega.{arith}
 use lib.Dec.{T, leb, lit<}
 use lib.ListN.{getD}
-use lib.IntN.{ℤ, pos, negℤ, natAbs, _+ℤ_}
+use lib.IntN.{ℤ, pos, negℤ, _+ℤ_}
 use lib.Signed.{ltZ, _<ℤ_, ltZ-yes}
 use Rattle.turn.specs.Phase.{turn, quarter, third, twelfth, phase}
 use Rattle.turn.proofs.Tests.{and-left, and-right, two-le, every, every-at}
@@ -82,6 +82,9 @@ balanced e h = (
     at : (f : ℕ → ℤ) → ((a b : ℕ) → phase a ≡ phase b → f a ≡ f b) → three f e ≡ three f (twelfth * k)
     at f same = ap₂ _+ℤ_ (ap₂ _+ℤ_ (same e (twelfth * k) (omega arith)) (same _ _ (omega arith))) (same _ _ (omega arith))
 
+pub thirds-sum : (x 0 +ℤ x third +ℤ x (third + third) ≡ pos 0) × (y 0 +ℤ y third +ℤ y (third + third) ≡ pos 0)
+thirds-sum = (balanced 0 (omega arith) .0 .zero-sum, balanced 0 (omega arith) .1 .zero-sum)
+
 -- ---- x falls strictly over the first quarter
 
 falls? : ℕ → Bool
@@ -112,7 +115,9 @@ power-tight e = subst (PowerWithin powerBelow powerAbove) (weight-phase e) (reco
     w = weight (phase e)
 
     t : (radius * radius ≤ power w + powerBelow) × (power w ≤ radius * radius + powerAbove)
-    t = two-le (radius * radius) (power w + powerBelow) (power w) (radius * radius + powerAbove) (every-at turn power? powers (phase e) (mod-lt e (lit< tt)))
+    t =
+        two-le (radius * radius) (power w + powerBelow) (power w) (radius * radius + powerAbove)
+        (every-at turn power? powers (phase e) (mod-lt e (lit< tt)))
 
 pub power-within : (e : ℕ) → PowerWithin limit limit (weight e)
 power-within e = let p = power-tight e in record { low = omega arith; high = omega arith }

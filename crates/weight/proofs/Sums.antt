@@ -4,11 +4,11 @@ use mathlib.Core.List.{List, [], _∷_}
 use Prim.Native.Nat.{ℕ, _+_}
 use native.Mathlib.Omega.{arith}
 use lib.IntN.{ℤ, pos, negℤ, _+ℤ_, _-ℤ_, +ℤ-invr}
-use Rattle.turn.specs.Phase.{half, third, quarter, twelfth, phase}
+use Rattle.turn.specs.Phase.{half, third, quarter, phase}
 use Rattle.turn.proofs.All.{All, none, more}
 use Rattle.turn.proofs.Totals.{total, total-cong}
 use Rattle.turn.proofs.Invariant.{Invariant, invariant-add}
-use Rattle.turn.proofs.Cancel.{Coarse, Cancels, opposites, thirds}
+use Rattle.turn.proofs.Cancel.{Cancels, opposites, thirds}
 use Rattle.weight.specs.declared.Weight.{Weight}
 use Rattle.weight.specs.Table.{weight}
 use Rattle.weight.specs.Products.{turned}

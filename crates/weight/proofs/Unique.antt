@@ -1,5 +1,6 @@
--- The public function of the crate has one outcome on every input: any two that its contract admits are equal. Assumes nothing.
-use mathlib.Core.Path.{_≡_, sym, _∙_}
+-- The public function of the crate has one outcome on every input: any two that its contract admits are equal.
+-- Assumes nothing.
+use mathlib.Core.Path.{sym, _∙_}
 use Rattle.turn.proofs.Unique.{Unique}
 use Rattle.weight.proofs.Weight.of.Reads as of
 

@@ -1,16 +1,17 @@
--- That a value of the table is the whole number nearest to radius times a cosine, said without a cosine. The angle of entry e is an odd number of
--- (4·3·2^k)ths of a turn, so 3·2^k times the angle is an odd number of quarters, where the cosine is zero. As a polynomial in cos t, cos (3·2^k·t) is exact.
--- It changes sign between (x - 1/2)/radius and (x + 1/2)/radius: one of its zeros is nearest to x. In the first quarter these zeros are as many as the
--- entries of one k, and the entries fall strictly, so each has its own.
+-- That x is the whole number nearest to radius·cos t, said without a cosine. cos (3·2^k·t) is a polynomial in cos t
+-- with whole coefficients, so its sign at a fraction is exact. Where it changes between (x - 1/2)/radius and (x +
+-- 1/2)/radius, x is nearest to radius·cos t for a zero t of it. The angle of an entry that is no whole sixth of a
+-- turn is such a zero, for the k that `doublings` gives. Half a turn has as many of these zeros as entries of that k,
+-- and x falls strictly, so each entry is nearest at its own angle.
 use mathlib.Core.Bool.{cond}
-use Prim.Native.Nat.{ℕ, zero, suc, _*_, _/_, _%_}
+use Prim.Native.Nat.{ℕ, zero, suc, _*_, _%_}
 use lib.Dec.{eqb}
 use lib.IntN.{ℤ, pos, _+ℤ_, _-ℤ_, _*ℤ_}
 use lib.Signed.{_<ℤ_}
 use Rattle.turn.specs.Phase.{quarter}
 use Rattle.weight.specs.Table.{radius}
 
--- the numerator of cos 3t = 4·cos³ t - 3·cos t over d³, where cos t is n / d
+-- the numerator over d³ of cos 3t = 4·cos³ t - 3·cos t, where cos t is n / d
 abbrev pub trebled : ℤ → ℤ → ℤ
 trebled n d = pos 4 *ℤ (n *ℤ n *ℤ n) -ℤ pos 3 *ℤ (n *ℤ (d *ℤ d))
 
@@ -23,15 +24,11 @@ doubled (suc k) n d = doubled k (pos 2 *ℤ (n *ℤ n) -ℤ d *ℤ d) (d *ℤ d)
 abbrev pub wave : ℕ → ℤ → ℤ
 wave k n = let d = pos (2 * radius) in doubled k (trebled n d) (d *ℤ d *ℤ d)
 
--- cos (3·2^k·t) passes through zero between the two t whose cosines are half a step to either side of x / radius
+-- cos (3·2^k·t) has opposite signs half a step to either side of x
 pub record Nearest (k : ℕ) (x : ℤ) : Type 0 where
   pub crosses : (wave k (pos 2 *ℤ x -ℤ pos 1) *ℤ wave k (pos 2 *ℤ x +ℤ pos 1)) <ℤ pos 0
 
--- how often e·2^k must be doubled to be an odd number of quarters of a third of the turn: k, less one for each time that 2 divides e
-abbrev pub level : ℕ → ℕ → ℕ
-level zero e = zero
-level (suc k) e = cond (eqb (e % 2) 0) (level k (e / 2)) (suc k)
-
--- a quarter of a turn is 3 doubled so many times
-abbrev pub doublings : ℕ
-doublings = 4
+-- how often the angle e is doubled, n times at most, until three times it is a whole number of quarters of a turn
+abbrev pub doublings : ℕ → ℕ → ℕ
+doublings zero e = zero
+doublings (suc n) e = cond (eqb (3 * e % quarter) 0) zero (suc (doublings n (2 * e)))

@@ -33,7 +33,8 @@ pub record PowerWithin (n m : ℕ) (w : Weight) : Type 0 where
   pub low : radius * radius ≤ power w + n
   pub high : power w ≤ radius * radius + m
 
--- how far a part of a product may be from radius times that part of the weight at the difference, and a power from radius·radius
+-- how far a part of a product may be from radius times that part of the weight at the difference, and a power from
+-- radius·radius
 abbrev pub limit : ℕ
 limit = 32768
 

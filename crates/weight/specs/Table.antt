@@ -1,4 +1,4 @@
--- The table of weights, from its first quarter: the cosine goes on below zero by the same values, and the sine is the cosine a quarter later.
+-- The table of weights: a pair of whole numbers for each phase, from the cosines of its first quarter.
 use mathlib.Core.List.{List, [], _∷_, _++_, map, reverse, zipWith}
 use Prim.Native.Nat.{ℕ, _-_}
 use lib.IntN.{ℤ, pos, negℤ}
@@ -12,18 +12,23 @@ radius = 16384
 
 -- the whole numbers nearest to radius·cos of e/turn, for e from 0 to a quarter of a turn
 unfoldable pub firstQuarter : List ℕ
-firstQuarter = 16384 ∷ 16375 ∷ 16349 ∷ 16305 ∷ 16244 ∷ 16165 ∷ 16069 ∷ 15956 ∷ 15826 ∷ 15679 ∷ 15515 ∷ 15334 ∷ 15137 ∷ 14924 ∷ 14694 ∷ 14449 ∷ 14189 ∷ 13913 ∷ 13623 ∷ 13318 ∷ 12998 ∷ 12665 ∷ 12318 ∷ 11958 ∷ 11585 ∷ 11200 ∷ 10803 ∷ 10394 ∷ 9974 ∷ 9543 ∷ 9102 ∷ 8652 ∷ 8192 ∷ 7723 ∷ 7246 ∷ 6762 ∷ 6270 ∷ 5771 ∷ 5266 ∷ 4756 ∷ 4240 ∷ 3720 ∷ 3196 ∷ 2669 ∷ 2139 ∷ 1606 ∷ 1072 ∷ 536 ∷ 0 ∷ []
+firstQuarter =
+    16384 ∷ 16375 ∷ 16349 ∷ 16305 ∷ 16244 ∷ 16165 ∷ 16069 ∷ 15956 ∷ 15826 ∷ 15679 ∷ 15515 ∷ 15334
+    ∷ 15137 ∷ 14924 ∷ 14694 ∷ 14449 ∷ 14189 ∷ 13913 ∷ 13623 ∷ 13318 ∷ 12998 ∷ 12665 ∷ 12318 ∷ 11958
+    ∷ 11585 ∷ 11200 ∷ 10803 ∷ 10394 ∷ 9974 ∷ 9543 ∷ 9102 ∷ 8652 ∷ 8192 ∷ 7723 ∷ 7246 ∷ 6762
+    ∷ 6270 ∷ 5771 ∷ 5266 ∷ 4756 ∷ 4240 ∷ 3720 ∷ 3196 ∷ 2669 ∷ 2139 ∷ 1606 ∷ 1072 ∷ 536
+    ∷ 0 ∷ []
 
+-- x over half a turn: past the quarter the same values come back, below zero
 unfoldable pub firstHalf : List ℤ
-unfolding firstQuarter
 firstHalf = map pos (take quarter firstQuarter) ++ map (λ (n : ℕ). negℤ (pos n)) (reverse (drop 1 firstQuarter))
 
+-- x: half a turn on, each value is the opposite
 unfoldable pub xs : List ℤ
-unfolding firstHalf
 xs = firstHalf ++ map negℤ firstHalf
 
+-- y at e is x at e less a quarter
 unfoldable pub ys : List ℤ
-unfolding xs
 ys = drop (turn - quarter) xs ++ take (turn - quarter) xs
 
 -- the pairs, a weight for each phase from 0 on
