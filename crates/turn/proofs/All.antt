@@ -14,12 +14,16 @@ module _ {P : ℕ → Type 0} where
 
   pub all-product : {xs ys : List ℕ} → ((x y : ℕ) → P x → P y → P (x + y)) → All P xs → All P ys → All P (product xs ys)
   unfolding product
-  all-product {xs} {ys} add none q = none
-  all-product {xs} {ys} add (more {x} h p) q = all-append (shifted x h q) (all-product add p q)
+  all-product add none q = none
+  all-product add (more {x} h p) q = all-append (shifted x h q) (all-product add p q)
     where
       shifted : (x : ℕ) → P x → {ys : List ℕ} → All P ys → All P (map (λ y. x + y) ys)
       shifted x h none = none
       shifted x h (more {x = y} k q) = more (add x y h k) (shifted x h q)
+
+pub all-each : {P Q : ℕ → Type 0} → ((x : ℕ) → P x → Q x) → {xs : List ℕ} → All P xs → All Q xs
+all-each h none = none
+all-each h (more {x} p a) = more (h x p) (all-each h a)
 
 pub all-map : {P Q : ℕ → Type 0} (f : ℕ → ℕ) → ((x : ℕ) → P x → Q (f x)) → {xs : List ℕ} → All P xs → All Q (map f xs)
 all-map f h none = none

@@ -25,11 +25,11 @@ pub record Setting : Type 0 where
   pub o1 : ℕ
   pub o2 : ℕ
 
--- the phase from one antenna to the next, for beam l of n·o beams over n antennas, l reduced
+-- the phase from one antenna to the next in a direction of n antennas and n·o beams, for beam l reduced
 unfoldable pub step : ℕ → ℕ → ℕ → ℕ
 step n o l = l % (n * o) * (turn / (n * o))
 
--- the beam (l,m)
+-- the beam (l,m): at (a,b) it has phase a·l·turn/(N1·O1) + b·m·turn/(N2·O2), with l and m reduced
 unfoldable pub beam : Setting → ℕ → ℕ → List ℕ
 beam c l m = grid (c .n1) (step (c .n1) (c .o1) l) (c .n2) (step (c .n2) (c .o2) m)
 

@@ -12,6 +12,7 @@ pub struct Phase {
 }
 
 impl Phase {
+    // Of 192 parts, a quarter has 48, a half 96 and an eighth 24.
     pub const QUARTER: Phase = Phase { parts: TURN / 4 };
 
     pub const HALF: Phase = Phase { parts: TURN / 2 };

@@ -5,7 +5,7 @@ use mathlib.Core.Logic.{_≢_}
 use mathlib.Core.Bool.{Bool, _||_}
 use mathlib.Core.List.{zipWith}
 use Prim.Native.Nat.{ℕ, _+_, _*_, _%_}
-use native.Mathlib.Nat.{mod-lt}
+use native.Mathlib.Nat.{mod-lt, mod-mod}
 use native.Mathlib.Omega.{arith}
 use lib.Dec.{T, eqb, eqb→eq, lit<}
 use lib.IntN.{ℤ, pos, negℤ, _+ℤ_, _-ℤ_, _*ℤ_}
@@ -15,13 +15,12 @@ use Rattle.turn.proofs.Tests.{or-else, every, every-at}
 use Rattle.weight.specs.declared.Weight.{Weight}
 use Rattle.weight.specs.Table.{radius, firstQuarter, firstHalf, xs, ys, table, weight}
 use Rattle.weight.specs.Nearest.{wave, Nearest, doublings}
-use Rattle.weight.proofs.Rules.{x, y, weight-phase, weight-same, quarter-more}
+use Rattle.weight.proofs.Rules.{x, y, x-same, y-same, quarter-more}
 
 -- the sine is the cosine three quarters on
 pub sine : (e : ℕ) → y e ≡ x (e + 3 * quarter)
 sine e =
-    ap (λ (w : Weight). w .y) (weight-same e (e + 3 * quarter + quarter) (omega arith))
-    ∙ ap (λ (w : Weight). w .y) (quarter-more (e + 3 * quarter))
+    y-same e (e + 3 * quarter + quarter) (omega arith) ∙ ap (λ (w : Weight). w .y) (quarter-more (e + 3 * quarter))
 
 crosses : ℕ → ℤ
 crosses e = wave (doublings quarter e) (pos 2 *ℤ x e -ℤ pos 1) *ℤ wave (doublings quarter e) (pos 2 *ℤ x e +ℤ pos 1)
@@ -36,7 +35,7 @@ all-nearest = tt
 pub nearest : (e : ℕ) → e % sixth ≢ 0 → Nearest (doublings quarter (phase e)) (x e)
 unfolding nearest? crosses
 nearest e n =
-    subst (Nearest (doublings quarter (phase e))) (ap (λ (w : Weight). w .x) (weight-phase e)) (record {
+    subst (Nearest (doublings quarter (phase e))) (x-same (phase e) e (mod-mod e turn)) (record {
       crosses =
           ltZ-yes
           (or-else (eqb (phase e % sixth) 0) _ (λ t. n (omega (arith, eqb→eq (phase e % sixth) 0 t)))

@@ -26,10 +26,23 @@ weight-phase e = ap (λ (n : ℕ). getD table n none) (mod-mod e turn)
 pub weight-same : (a b : ℕ) → phase a ≡ phase b → weight a ≡ weight b
 weight-same a b e = sym (weight-phase a) ∙ ap weight e ∙ weight-phase b
 
+-- its two parts
+abbrev pub x : ℕ → ℤ
+x e = weight e .x
+
+abbrev pub y : ℕ → ℤ
+y e = weight e .y
+
+pub x-same : (a b : ℕ) → phase a ≡ phase b → x a ≡ x b
+x-same a b e = ap (λ (w : Weight). w .x) (weight-same a b e)
+
+pub y-same : (a b : ℕ) → phase a ≡ phase b → y a ≡ y b
+y-same a b e = ap (λ (w : Weight). w .y) (weight-same a b e)
+
 -- ---- a quarter more turns (x,y) into (-y,x)
 
 quarter? : ℕ → Bool
-quarter? e = eqZ (weight (e + quarter) .x) (negℤ (weight e .y)) && eqZ (weight (e + quarter) .y) (weight e .x)
+quarter? e = eqZ (x (e + quarter)) (negℤ (y e)) && eqZ (y (e + quarter)) (x e)
 
 quarters : T (every turn quarter?)
 unfolding every quarter? eqZ weight table zipWith xs ys firstHalf firstQuarter
@@ -47,12 +60,6 @@ quarter-more e =
 
 -- ---- three weights a third of a turn apart sum to zero, at every whole twelfth of a turn
 
-abbrev pub x : ℕ → ℤ
-x e = weight e .x
-
-abbrev pub y : ℕ → ℤ
-y e = weight e .y
-
 abbrev three : (ℕ → ℤ) → ℕ → ℤ
 three f e = f e +ℤ f (e + third) +ℤ f (e + (third + third))
 
@@ -69,8 +76,8 @@ thirds = tt
 pub balanced : (e : ℕ) → e % twelfth ≡ 0 → Balanced x e × Balanced y e
 unfolding thirds?
 balanced e h = (
-  record { zero-sum = at x (λ a b q. ap (λ (w : Weight). w .x) (weight-same a b q)) ∙ eqZ→eq _ _ (and-left (eqZ _ _) (eqZ _ _) t) },
-  record { zero-sum = at y (λ a b q. ap (λ (w : Weight). w .y) (weight-same a b q)) ∙ eqZ→eq _ _ (and-right (eqZ _ _) (eqZ _ _) t) },
+  record { zero-sum = at x x-same ∙ eqZ→eq _ _ (and-left (eqZ _ _) (eqZ _ _) t) },
+  record { zero-sum = at y y-same ∙ eqZ→eq _ _ (and-right (eqZ _ _) (eqZ _ _) t) },
 )
   where
     k : ℕ

@@ -2,10 +2,11 @@
 use mathlib.Core.Path.{_≡_, refl, sym, ap, ap₂, _∙_}
 use mathlib.Core.List.{List, [], _∷_}
 use Prim.Native.Nat.{ℕ, _+_}
+use native.Mathlib.Nat.{mod-mod}
 use native.Mathlib.Omega.{arith}
 use lib.IntN.{ℤ, pos, negℤ, _+ℤ_, _-ℤ_, +ℤ-invr}
-use Rattle.turn.specs.Phase.{half, third, quarter, phase}
-use Rattle.turn.proofs.All.{All, none, more}
+use Rattle.turn.specs.Phase.{turn, half, third, quarter, phase}
+use Rattle.turn.proofs.All.{All, none, more, all-each}
 use Rattle.turn.proofs.Totals.{total, total-cong}
 use Rattle.turn.proofs.Invariant.{Invariant, invariant-add}
 use Rattle.turn.proofs.Cancel.{Cancels, opposites, thirds}
@@ -13,7 +14,7 @@ use Rattle.weight.specs.declared.Weight.{Weight}
 use Rattle.weight.specs.Table.{weight}
 use Rattle.weight.specs.Products.{turned}
 use Rattle.weight.proofs.Integers.{above, below, above-neg, parts, add-parts, zero-parts}
-use Rattle.weight.proofs.Rules.{x, y, weight-phase, quarter-more, Balanced, balanced}
+use Rattle.weight.proofs.Rules.{x, y, x-same, y-same, quarter-more, Balanced, balanced}
 
 unfoldable pub sum : (ℕ → ℤ) → List ℕ → ℤ
 sum f [] = pos 0
@@ -69,14 +70,10 @@ half-more e = ap weight (omega arith) ∙ quarter-more (e + quarter) ∙ ap turn
 
 pub weights-sum : {es : List ℕ} → Cancels es → (sum x es ≡ pos 0) × (sum y es ≡ pos 0)
 weights-sum (opposites p) = (
-  sum-opposites x (λ e. ap (λ (w : Weight). w .x) (weight-phase e)) (λ e. ap (λ (w : Weight). w .x) (half-more e)) p,
-  sum-opposites y (λ e. ap (λ (w : Weight). w .y) (weight-phase e)) (λ e. ap (λ (w : Weight). w .y) (half-more e)) p,
+  sum-opposites x (λ e. x-same (phase e) e (mod-mod e turn)) (λ e. ap (λ (w : Weight). w .x) (half-more e)) p,
+  sum-opposites y (λ e. y-same (phase e) e (mod-mod e turn)) (λ e. ap (λ (w : Weight). w .y) (half-more e)) p,
 )
 weights-sum (thirds p a) = (
-  sum-thirds x (λ e. ap (λ (w : Weight). w .x) (weight-phase e)) p (each (λ e h. balanced e h .0) a),
-  sum-thirds y (λ e. ap (λ (w : Weight). w .y) (weight-phase e)) p (each (λ e h. balanced e h .1) a),
+  sum-thirds x (λ e. x-same (phase e) e (mod-mod e turn)) p (all-each (λ e h. balanced e h .0) a),
+  sum-thirds y (λ e. y-same (phase e) e (mod-mod e turn)) p (all-each (λ e h. balanced e h .1) a),
 )
-  where
-    each : {P Q : ℕ → Type 0} → ((e : ℕ) → P e → Q e) → {es : List ℕ} → All P es → All Q es
-    each h none = none
-    each h (more {x = e} p a) = more (h e p) (each h a)

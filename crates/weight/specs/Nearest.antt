@@ -1,8 +1,8 @@
--- That x is the whole number nearest to radius·cos t, said without a cosine. cos (3·2^k·t) is a polynomial in cos t
--- with whole coefficients, so its sign at a fraction is exact. Where it changes between (x - 1/2)/radius and (x +
--- 1/2)/radius, x is nearest to radius·cos t for a zero t of it. The angle of an entry that is no whole sixth of a
--- turn is such a zero, for the k that `doublings` gives. Half a turn has as many of these zeros as entries of that k,
--- and x falls strictly, so each entry is nearest at its own angle.
+-- That x is the whole number nearest to radius·cos t, said without a cosine. cos (3·2^k·t) is a polynomial in cos t, so
+-- its sign where cos t is a fraction is exact. Where the sign changes between (x - 1/2)/radius and (x + 1/2)/radius, x is
+-- nearest to radius·cos t for a zero t between them. The angle of an entry that is no whole sixth of a turn is a zero, for
+-- the k that `doublings` gives. A quarter of a turn has as many zeros as entries of that k, and x falls strictly over it,
+-- so each entry is nearest at its own angle; the other quarters repeat the first.
 use mathlib.Core.Bool.{cond}
 use Prim.Native.Nat.{ℕ, zero, suc, _*_, _%_}
 use lib.Dec.{eqb}

@@ -16,6 +16,7 @@ re a g = a .x *ℤ g .x +ℤ a .y *ℤ g .y
 abbrev pub im : Weight → Weight → ℤ
 im a g = a .x *ℤ g .y -ℤ a .y *ℤ g .x
 
+-- the power of a weight: x² + y²
 abbrev pub power : Weight → ℕ
 power w = natAbs (w .x) * natAbs (w .x) + natAbs (w .y) * natAbs (w .y)
 
@@ -33,12 +34,12 @@ pub record PowerWithin (n m : ℕ) (w : Weight) : Type 0 where
   pub low : radius * radius ≤ power w + n
   pub high : power w ≤ radius * radius + m
 
--- how far a part of a product may be from radius times that part of the weight at the difference, and a power from
+-- the scope's limit: of a part of a product against radius times the weight at the difference, and of a power against
 -- radius·radius
 abbrev pub limit : ℕ
 limit = 32768
 
--- the largest of these that occur: of a product, of a power below and of a power above
+-- the largest that occur: of a part of a product, of a power below and of a power above
 abbrev pub productOff : ℕ
 productOff = 25237
 
