@@ -1,12 +1,13 @@
 -- `Weight::of` gives the definition's weight: its table holds the numbers of the definition's, which antt compares
 -- one by one, and the index is the reduced phase twice over. Assumes nothing.
-use mathlib.Core.Path.{ap, _∙_}
+use mathlib.Core.Path.{_≡_, ap, _∙_}
 use mathlib.Core.List.{zipWith}
-use Prim.Native.Nat.{ℕ, _+_, _*_}
-use lib.IntN.{pos}
+use Prim.Native.Nat.{ℕ, _+_, _*_, _^_, _<_}
+use lib.IntN.{ℤ, pos}
 use lib.ListN.{getD}
+use lib.Signed.{mag}
 use mir.Syntax.{w16}
-use mir.Val.{SFits}
+use mir.Val.{hbits, toZ, ofZ}
 use mir.Facts.{toZ-ofZ}
 use borrow.Author.Needs.{needs}
 use Rattle.weight.specs.Table.{firstQuarter, firstHalf, xs, ys, table, weight, numbers}
@@ -41,13 +42,17 @@ mul-t12 c = search needs
 array-copy-out-t15 : tie.Need-array-copy-out-t15
 array-copy-out-t15 c = search needs
 
+-- what the code holds in a local is the number itself
+local : {z : ℤ} → mag z < 2 ^ hbits w16 → toZ w16 (ofZ w16 z) ≡ z
+local h = toZ-ofZ {w = w16} (record { sfits = h })
+
 returns : tie.Need-returns
 unfolding weight table xs ys firstHalf firstQuarter zipWith numbers
 returns c =
     let i : ℕ = c .before .before .before .of .result .parts in
-    let fx : SFits w16 (getD (numbers table) (2 * i) (pos 0)) = search needs in
-    let fy : SFits w16 (getD (numbers table) (2 * i + 1) (pos 0)) = search needs in
-    one-weight (toZ-ofZ fx ∙ numbers-x table i) (toZ-ofZ fy ∙ numbers-y table i)
+    let stored-x : mag (getD (numbers table) (2 * i) (pos 0)) < 2 ^ hbits w16 = c .before .t9 .given in
+    let stored-y : mag (getD (numbers table) (2 * i + 1) (pos 0)) < 2 ^ hbits w16 = c .t15 .given in
+    one-weight (local stored-x ∙ numbers-x table i) (local stored-y ∙ numbers-y table i)
     ∙ ap (λ (n : ℕ). getD table n none) (c .before .before .before .of .ensures)
 
 pub of-spec : {M : Type 1} → statement M
