@@ -16,7 +16,7 @@ use Rattle.turn.proofs.Zero.{to-half, half-or-third}
 use Rattle.turn.proofs.Differences.{differences-column}
 use Rattle.turn.proofs.Steps.{mul-multiple, gap-multiple}
 use Rattle.turn.proofs.Beams.{Apart, Common, same-length, differences-beams, beams-turned}
-use Rattle.turn.proofs.Opposites.{flipped, agreeing, differing, opposites-invariant}
+use Rattle.turn.proofs.Opposites.{flipped, Even, opposites-invariant}
 use Rattle.turn.proofs.Orthogonal.{orthogonal-turned, turned-by-beams, turned-by-co-phases}
 
 -- whole twelfths of a turn
@@ -48,16 +48,17 @@ coarse-steps (suc n) s h = all-append (coarse-steps n s h) (more (mul-multiple n
 -- ---- columns
 
 -- co-phases that agree as often as they are opposite
-pub opposites-cancel : (co : List ℕ) (ms ns : List Bool) → length ms ≡ length co → length ns ≡ length co
-    → agreeing ms ns ≡ differing ms ns
+pub opposites-cancel : (co : List ℕ) (ms ns : List Bool) → Even (length co) ms ns
     → (b b′ : List ℕ) → length b ≡ length b′ → Cancels (differences (column (flipped co ms) b) (column (flipped co ns) b′))
-opposites-cancel co ms ns h k e b b′ same = opposites (turned-by-co-phases _ _ b b′ same (opposites-invariant co ms ns h k e))
+opposites-cancel co ms ns v b b′ same = opposites (turned-by-co-phases _ _ b b′ same (opposites-invariant co ms ns v))
 
 -- Beams that lie whole multiples of the oversampling apart: where 3 divides the N1th and the N2th part of a turn no
 -- thirds occur; or else these parts are whole twelfths, and the co-phases must be too
 module _ (c : Setting) (whole : Divides c) (l m j1 j2 k1 k2 : ℕ) (a : Apart c j1 j2 k1 k2) (co co′ : List ℕ) where
   abbrev between : List ℕ
-  between = differences (column co (beam c (l + j1 * c .o1) (m + j2 * c .o2))) (column co′ (beam c (l + k1 * c .o1) (m + k2 * c .o2)))
+  between =
+      differences (column co (beam c (l + j1 * c .o1) (m + j2 * c .o2)))
+      (column co′ (beam c (l + k1 * c .o1) (m + k2 * c .o2)))
 
   coarse-between : Common c twelfth → Coarse (differences co co′) → Coarse between
   coarse-between p h =

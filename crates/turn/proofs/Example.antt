@@ -17,35 +17,37 @@ unfoldable pub setting : Setting
 setting = record { n1 = 3; n2 = 2; o1 = 4; o2 = 4 }
 
 unfoldable pub layer1 : List ℕ
-layer1 = column (0 ∷ 0 ∷ []) (beam setting (0 + 0 * 4) (0 + 0 * 4))
+layer1 = column (0 ∷ 0 ∷ []) (beam setting 0 0)
 
+-- k is (2·O1, 0)
 unfoldable pub layer2 : List ℕ
-layer2 = column (0 ∷ 0 ∷ []) (beam setting (0 + 2 * 4) (0 + 0 * 4))
+layer2 = column (0 ∷ 0 ∷ []) (beam setting 8 0)
+
+unfoldable pub between : List ℕ
+between = differences layer1 layer2
 
 -- 0 0 128 128 64 64, twice
-pub layer2-is : layer2 ≡ 0 ∷ 0 ∷ 2 * third ∷ 2 * third ∷ third ∷ third ∷ 0 ∷ 0 ∷ 2 * third ∷ 2 * third ∷ third ∷ third ∷ []
+pub layer2-is : layer2
+    ≡ 0 ∷ 0 ∷ 2 * third ∷ 2 * third ∷ third ∷ third ∷ 0 ∷ 0 ∷ 2 * third ∷ 2 * third ∷ third ∷ third ∷ []
 unfolding layer2 setting column beam grid step steps product
 layer2-is = refl
 
 -- the differences are 0, 64 and 128, four ports each
-pub counts : (count (differences layer1 layer2) 0 ≡ 4)
-    × (count (differences layer1 layer2) third ≡ 4)
-    × (count (differences layer1 layer2) (2 * third) ≡ 4)
-unfolding layer1 layer2 setting column beam grid step steps product differences difference count
+pub counts : (count between 0 ≡ 4) × (count between third ≡ 4) × (count between (2 * third) ≡ 4)
+unfolding between layer1 layer2 setting column beam grid step steps product differences difference count
 counts = (refl, refl, refl)
 
--- no difference has an opposite among them
+-- no difference has its opposite among them
 unpaired : ℕ → Bool
-unpaired e = eqb (count (differences layer1 layer2) e) 0 || eqb (count (differences layer1 layer2) (e + half)) 0
+unpaired e = eqb (count between e) 0 || eqb (count between (e + half)) 0
 
 all-unpaired : T (every half unpaired)
-unfolding every unpaired layer1 layer2 setting column beam grid step steps product differences difference count
+unfolding every unpaired between layer1 layer2 setting column beam grid step steps product differences difference count
 all-unpaired = tt
 
-pub no-opposites : (e : ℕ) → e < half
-    → (count (differences layer1 layer2) e ≡ 0) ⊎ (count (differences layer1 layer2) (e + half) ≡ 0)
+pub no-opposites : (e : ℕ) → e < half → (count between e ≡ 0) ⊎ (count between (e + half) ≡ 0)
 unfolding unpaired
-no-opposites e h = elim (or-cases (eqb (count (differences layer1 layer2) e) 0) _ (every-at half unpaired all-unpaired e h)) [
+no-opposites e h = elim (or-cases (eqb (count between e) 0) _ (every-at half unpaired all-unpaired e h)) [
   | inl t ↦ inl (eqb→eq _ 0 t)
   | inr t ↦ inr (eqb→eq _ 0 t)
 ]
@@ -53,5 +55,4 @@ no-opposites e h = elim (or-cases (eqb (count (differences layer1 layer2) e) 0) 
 -- and yet the two layers are exactly orthogonal
 pub orthogonal : Orthogonal layer1 layer2
 unfolding layer1 layer2 setting
-orthogonal =
-    beams-orthogonal setting (record { rows = refl; columns = refl }) 0 0 0 0 2 0 (inl (omega arith)) (0 ∷ 0 ∷ []) (0 ∷ 0 ∷ [])
+orthogonal = beams-orthogonal setting (record { rows = refl; columns = refl }) 0 0 0 0 2 0 (inl (omega arith)) _ _

@@ -55,14 +55,19 @@ total-flipped f (x ∷ xs) (m ∷ ms) (n ∷ ns) h k =
     one true p q = omega arith
     one false p q = omega arith
 
-pub opposites-invariant : (xs : List ℕ) (ms ns : List Bool) → length ms ≡ length xs → length ns ≡ length xs
-    → agreeing ms ns ≡ differing ms ns
+-- two lists of n marks that agree as often as they differ
+pub record Even (n : ℕ) (ms ns : List Bool) : Type 0 where
+  pub first : length ms ≡ n
+  pub second : length ns ≡ n
+  pub even : agreeing ms ns ≡ differing ms ns
+
+pub opposites-invariant : (xs : List ℕ) (ms ns : List Bool) → Even (length xs) ms ns
     → Invariant half (differences (flipped xs ms) (flipped xs ns))
-opposites-invariant xs ms ns h k e = record {
+opposites-invariant xs ms ns v = record {
   turned = λ f s.
-      total-flipped (λ x. f (x + half)) xs ms ns h k
-      ∙ ap₂ (λ (p q : ℕ). p * f half + q * f turn) e (sym e)
+      total-flipped (λ x. f (x + half)) xs ms ns (v .first) (v .second)
+      ∙ ap₂ (λ (p q : ℕ). p * f half + q * f turn) (v .even) (sym (v .even))
       ∙ ap (λ (p : ℕ). differing ms ns * f half + agreeing ms ns * p) (sym (s turn))
       ∙ omega arith
-      ∙ sym (total-flipped f xs ms ns h k);
+      ∙ sym (total-flipped f xs ms ns (v .first) (v .second));
 }

@@ -15,13 +15,14 @@ use Rattle.turn.proofs.Invariant.{Invariant, invariant-left, invariant-
 use Rattle.turn.proofs.Zero.{exact-zero}
 use Rattle.turn.proofs.Differences.{differences-column}
 use Rattle.turn.proofs.Beams.{Apart, same-length, beams-turned}
-use Rattle.turn.proofs.Opposites.{flipped, agreeing, differing, opposites-invariant}
+use Rattle.turn.proofs.Opposites.{flipped, Even, opposites-invariant}
 
 phases-differences : (xs ys : List ℕ) → map phase (differences xs ys) ≡ differences xs ys
 unfolding differences difference
 phases-differences [] ys = refl
 phases-differences (x ∷ xs) [] = refl
-phases-differences (x ∷ xs) (y ∷ ys) = ap₂ {C = List ℕ} (λ z l. z ∷ l) (mod-mod (y + (turn - phase x)) turn) (phases-differences xs ys)
+phases-differences (x ∷ xs) (y ∷ ys) =
+    ap₂ {C = List ℕ} (λ z l. z ∷ l) (mod-mod (y + (turn - phase x)) turn) (phases-differences xs ys)
 
 -- two lists of phases whose differences some turn, no whole one, only permutes
 pub orthogonal-turned : {g : ℕ} (xs ys : List ℕ) → phase g ≢ 0 → Invariant g (differences xs ys) → Orthogonal xs ys
@@ -46,11 +47,7 @@ beams-orthogonal c whole l m j1 j2 k1 k2 a co co′ =
     orthogonal-turned _ _ (t .some) (turned-by-beams co co′ _ _ (same-length c whole l m j1 j2 k1 k2) (t .invariant))
 
 -- columns whose co-phases agree as often as they are opposite, whatever the beams
-pub opposites-orthogonal : (co : List ℕ) (ms ns : List Bool) → length ms ≡ length co → length ns ≡ length co
-    → agreeing ms ns ≡ differing ms ns
+pub opposites-orthogonal : (co : List ℕ) (ms ns : List Bool) → Even (length co) ms ns
     → (b b′ : List ℕ) → length b ≡ length b′ → Orthogonal (column (flipped co ms) b) (column (flipped co ns) b′)
-opposites-orthogonal co ms ns h k e b b′ same =
-    orthogonal-turned _ _ half-some (turned-by-co-phases _ _ b b′ same (opposites-invariant co ms ns h k e))
-  where
-    half-some : phase half ≢ 0
-    half-some = omega arith
+opposites-orthogonal co ms ns v b b′ same =
+    orthogonal-turned {g = half} _ _ (omega arith) (turned-by-co-phases _ _ b b′ same (opposites-invariant co ms ns v))
