@@ -1,5 +1,5 @@
--- Every number of the table is the whole number nearest to radius times its cosine or sine: exactly it at every sixth
--- of a turn, and by the test of `Nearest` elsewhere. Assumes nothing.
+-- Every number of the table passes the test of `Nearest`, or stands at a whole sixth of a turn, where it is exact. That
+-- this makes it the nearest is argued in specs/Nearest.antt. Assumes nothing.
 use mathlib.Core.Path.{_≡_, refl, ap, _∙_, subst}
 use mathlib.Core.Logic.{_≢_}
 use mathlib.Core.Bool.{Bool, _||_}
@@ -42,7 +42,7 @@ nearest e n =
           (every-at turn nearest? all-nearest (phase e) (mod-lt e (lit< tt))));
     })
 
--- ---- at a sixth of a turn the cosine is a half, at a third minus a half
+-- ---- at a sixth of a turn the cosine is a half, at a third minus a half; `half-more` gives the other three sixths
 
 pub exact-whole : x 0 ≡ pos radius
 unfolding weight table zipWith xs ys firstHalf firstQuarter

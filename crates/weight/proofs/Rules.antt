@@ -9,7 +9,7 @@ use lib.Dec.{T, leb, lit<}
 use lib.ListN.{getD}
 use lib.IntN.{ℤ, pos, negℤ, _+ℤ_}
 use lib.Signed.{ltZ, _<ℤ_, ltZ-yes}
-use Rattle.turn.specs.Phase.{turn, quarter, third, twelfth, phase}
+use Rattle.turn.specs.Phase.{turn, half, quarter, third, twelfth, phase}
 use Rattle.turn.proofs.Tests.{and-left, and-right, two-le, every, every-at}
 use Rattle.weight.specs.declared.Weight.{Weight}
 use Rattle.weight.specs.Table.{radius, firstQuarter, firstHalf, xs, ys, table, weight}
@@ -57,6 +57,10 @@ quarter-more e =
   where
     t : T (quarter? (phase e))
     t = every-at turn quarter? quarters (phase e) (mod-lt e (lit< tt))
+
+-- so half a turn more turns it into its opposite
+pub half-more : (e : ℕ) → weight (e + half) ≡ turned (turned (weight e))
+half-more e = ap weight (omega arith) ∙ quarter-more (e + quarter) ∙ ap turned (quarter-more e)
 
 -- ---- three weights a third of a turn apart sum to zero, at every whole twelfth of a turn
 

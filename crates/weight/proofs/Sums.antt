@@ -5,16 +5,15 @@ use Prim.Native.Nat.{ℕ, _+_}
 use native.Mathlib.Nat.{mod-mod}
 use native.Mathlib.Omega.{arith}
 use lib.IntN.{ℤ, pos, negℤ, _+ℤ_, _-ℤ_, +ℤ-invr}
-use Rattle.turn.specs.Phase.{turn, half, third, quarter, phase}
+use Rattle.turn.specs.Phase.{turn, half, third, phase}
 use Rattle.turn.proofs.All.{All, none, more, all-each}
 use Rattle.turn.proofs.Totals.{total, total-cong}
 use Rattle.turn.proofs.Invariant.{Invariant, invariant-add}
 use Rattle.turn.proofs.Cancel.{Cancels, opposites, thirds}
 use Rattle.weight.specs.declared.Weight.{Weight}
-use Rattle.weight.specs.Table.{weight}
 use Rattle.weight.specs.Products.{turned}
 use Rattle.weight.proofs.Integers.{above, below, above-neg, parts, add-parts, zero-parts}
-use Rattle.weight.proofs.Rules.{x, y, x-same, y-same, quarter-more, Balanced, balanced}
+use Rattle.weight.proofs.Rules.{x, y, x-same, y-same, half-more, Balanced, balanced}
 
 unfoldable pub sum : (ℕ → ℤ) → List ℕ → ℤ
 sum f [] = pos 0
@@ -64,9 +63,6 @@ module _ (f : ℕ → ℤ) (steady : (e : ℕ) → f (phase e) ≡ f e) where
       sum-zero f es (omega (arith, three-totals above es, three-totals below es, balanced-totals a))
 
 -- ---- weights
-
-half-more : (e : ℕ) → weight (e + half) ≡ turned (turned (weight e))
-half-more e = ap weight (omega arith) ∙ quarter-more (e + quarter) ∙ ap turned (quarter-more e)
 
 pub weights-sum : {es : List ℕ} → Cancels es → (sum x es ≡ pos 0) × (sum y es ≡ pos 0)
 weights-sum (opposites p) = (
