@@ -1,0 +1,165 @@
+-- The bits that a report reads: where they lie, and how they are read one after the other. Assumes nothing.
+use mathlib.Core.Path.{_≡_, refl, sym, ap, _∙_}
+use mathlib.Core.Logic.{inl, inr}
+use mathlib.Core.Bool.{Bool, true, false, cond, _||_}
+use mathlib.Core.List.{List, [], _∷_, _++_, map}
+use Prim.Native.Nat.{ℕ, zero, suc, _+_, _*_, _%_, _<_, _≤_}
+use native.Mathlib.Nat.{not-suc-le-zero, le-of-suc-le-suc, eq-or-lt-of-le, mod-lt}
+use native.Mathlib.Numerals.{add-one}
+use native.Mathlib.Omega.{arith}
+use lib.Arith.{digits-lt}
+use lib.Dec.{eqb, leb, ltb, lit≤}
+use lib.ListN.{length, getD, length-map}
+use borrow.Author.Tests.{eq-eqb, ne-eqb}
+use Rattle.codebook.specs.declared.Report.{Report}
+use Rattle.codebook.specs.declared.Beam.{Beam}
+use Rattle.codebook.specs.Lists.{some}
+use Rattle.codebook.specs.Settings.{isSetting, across, down, maskBytes}
+use Rattle.codebook.specs.Beams.{beam, halfLength, base, kRows, offsets, moved, beams}
+use Rattle.codebook.specs.Masks.{bit, beamBit, bitsRead, isZero}
+use Rattle.codebook.specs.Choice.{lOf, mOf, accepted, bitsAt}
+use Rattle.codebook.proofs.Known.{known, mask-bits}
+
+pub some-append : {A : Type 0} (test : A → Bool) (xs ys : List A) → some test (xs ++ ys) ≡ (some test xs || some test ys)
+unfolding some
+some-append test [] ys = refl
+some-append test (x ∷ xs) ys = rw (some-append test xs ys) (or-assoc (test x) (some test xs) (some test ys))
+  where
+    or-assoc : (a b c : Bool) → (a || (b || c)) ≡ ((a || b) || c)
+    or-assoc true b c = refl
+    or-assoc false b c = refl
+
+pub is-zero : (mask : List ℕ) (k : ℕ) → bit mask k ≡ 0 → isZero mask k ≡ true
+unfolding isZero
+is-zero mask k e = eq-eqb _ _ e
+
+pub is-one : (mask : List ℕ) (k : ℕ) → (bit mask k ≡ 0 → ⊥) → isZero mask k ≡ false
+unfolding isZero
+is-one mask k h = ne-eqb _ _ h
+
+module _ (mask : List ℕ) (width : ℕ) (l m : List ℕ) where
+  -- the bit of beam i
+  abbrev pub bitAt : ℕ → ℕ
+  bitAt i = width * getD l i 0 + getD m i 0
+
+  -- whether one of the first n is zero
+  abbrev pub zeroAmong : ℕ → Bool
+  zeroAmong n = some (isZero mask) (bitsAt n width l m)
+
+  among-more : (n : ℕ) → zeroAmong (suc n) ≡ (zeroAmong n || (isZero mask (bitAt n) || false))
+  unfolding bitsAt some
+  among-more n = some-append (isZero mask) (bitsAt n width l m) (bitAt n ∷ [])
+
+  pub none-among : zeroAmong 0 ≡ false
+  unfolding bitsAt some
+  none-among = refl
+
+  pub not-among : (n : ℕ) → zeroAmong n ≡ false → isZero mask (bitAt n) ≡ false → zeroAmong (n + 1) ≡ false
+  not-among n e h = rw add-one (among-more n ∙ rw (e, h))
+
+  pub among : (n i : ℕ) → i < n → isZero mask (bitAt i) ≡ true → zeroAmong n ≡ true
+  among zero i h e = absurd (not-suc-le-zero h)
+  among (suc n) i h e = elim (eq-or-lt-of-le (le-of-suc-le-suc h)) [
+    | inl q ↦ among-more n ∙ rw (sym q, e) (either (zeroAmong i))
+    | inr k ↦ among-more n ∙ rw (among n i k e)
+  ]
+    where
+      either : (a : Bool) → (a || (true || false)) ≡ true
+      either true = refl
+      either false = refl
+
+-- up to four beams, given by their numbers
+pub bits-of-beams : (n2 : ℕ) (xs : List Beam) → length xs ≤ 4 → bitsAt (length xs) (down n2) (lOf xs) (mOf xs) ≡ map (beamBit n2) xs
+unfolding bitsAt beamBit
+bits-of-beams n2 [] h = refl
+bits-of-beams n2 (a ∷ []) h = refl
+bits-of-beams n2 (a ∷ b ∷ []) h = refl
+bits-of-beams n2 (a ∷ b ∷ c ∷ []) h = refl
+bits-of-beams n2 (a ∷ b ∷ c ∷ d ∷ []) h = refl
+bits-of-beams n2 (a ∷ b ∷ c ∷ d ∷ e ∷ xs) h = absurd (let z : suc (suc (suc (suc (suc (length xs))))) ≤ 4 = h in omega arith)
+
+-- ---- where they lie
+
+-- a beam within the setting
+pub record Within (n1 n2 : ℕ) (x : Beam) : Type 0 where
+  pub l : x .l < across n1
+  pub m : x .m < down n2
+
+pub bit-within : (n1 n2 : ℕ) (x : Beam) → Within n1 n2 x → beamBit n2 x < across n1 * down n2
+unfolding beamBit
+bit-within n1 n2 x w = omega (arith, digits-lt (w .l) (w .m))
+
+-- every beam of a report, and the place where there is none
+pub beams-within : (r : Report) → isSetting (r .n1) (r .n2) ≡ true → (i : ℕ) → Within (r .n1) (r .n2) (getD (beams r) i (beam 0 0))
+unfolding beams
+beams-within r e i = go (offsets r) i
+  where
+    reduced : (k : Beam) → (moved r (base r) k .l < across (r .n1)) × (moved r (base r) k .m < down (r .n2))
+    reduced k = unfold moved in (mod-lt _ (known _ _ e .across-some), mod-lt _ (known _ _ e .down-some))
+
+    go : (ks : List Beam) (i : ℕ) → Within (r .n1) (r .n2) (getD (map (moved r (base r)) ks) i (beam 0 0))
+    go [] i = record { l = known _ _ e .across-some; m = known _ _ e .down-some }
+    go (k ∷ ks) zero = record { l = reduced k .0; m = reduced k .1 }
+    go (k ∷ ks) (suc i) = go ks i
+
+pub l-at : (xs : List Beam) (i : ℕ) → i < 4 → getD (lOf xs) i 0 ≡ getD xs i (beam 0 0) .l
+l-at xs zero h = refl
+l-at xs (suc zero) h = refl
+l-at xs (suc (suc zero)) h = refl
+l-at xs (suc (suc (suc zero))) h = refl
+l-at xs (suc (suc (suc (suc i)))) h = absurd (let z : suc (suc (suc (suc i))) < 4 = h in omega arith)
+
+pub m-at : (xs : List Beam) (i : ℕ) → i < 4 → getD (mOf xs) i 0 ≡ getD xs i (beam 0 0) .m
+m-at xs zero h = refl
+m-at xs (suc zero) h = refl
+m-at xs (suc (suc zero)) h = refl
+m-at xs (suc (suc (suc zero))) h = refl
+m-at xs (suc (suc (suc (suc i)))) h = absurd (let z : suc (suc (suc (suc i))) < 4 = h in omega arith)
+
+pub offsets-few : (r : Report) → length (offsets r) ≤ 4
+unfolding offsets
+offsets-few r = go (leb 7 (r .v)) (leb 5 (r .v)) (ltb 1 (r .n2)) (eqb (r .v) 1 || halfLength r)
+  where
+    go : (a b c d : Bool)
+        → length (cond a
+        (cond c (beam 0 0 ∷ beam 1 0 ∷ beam 0 1 ∷ beam 1 1 ∷ []) (beam 0 0 ∷ beam 1 0 ∷ beam 2 0 ∷ beam 3 0 ∷ []))
+        (cond b
+        (cond c (beam 0 0 ∷ beam 1 0 ∷ beam 1 1 ∷ []) (beam 0 0 ∷ beam 1 0 ∷ beam 2 0 ∷ []))
+        (cond d (beam 0 0 ∷ []) (beam 0 0 ∷ getD (kRows r) (r .i13) (beam 0 0) ∷ [])))) ≤ 4
+    go true b true d = lit≤ tt
+    go true b false d = lit≤ tt
+    go false true true d = lit≤ tt
+    go false true false d = lit≤ tt
+    go false false c true = lit≤ tt
+    go false false c false = lit≤ tt
+
+pub length-beams : (r : Report) → length (beams r) ≡ length (offsets r)
+unfolding beams
+length-beams r = length-map (offsets r) (moved r (base r))
+
+-- ---- the beams of an accepted report
+
+module _ (r : Report) where
+  pub accepted-l : accepted r .l ≡ lOf (beams r)
+  unfolding accepted
+  accepted-l = refl
+
+  pub accepted-m : accepted r .m ≡ mOf (beams r)
+  unfolding accepted
+  accepted-m = refl
+
+  -- the bit of each lies in the mask
+  pub accepted-bit : isSetting (r .n1) (r .n2) ≡ true → (r .n1 ≡ 1 → ⊥) → (i : ℕ) → i < 4
+      → down (r .n2) * getD (accepted r .l) i 0 + getD (accepted r .m) i 0 < 8 * maskBytes (r .n1) (r .n2)
+  unfolding beamBit
+  accepted-bit e more i h =
+      rw (accepted-l, accepted-m, l-at (beams r) i h, m-at (beams r) i h, mask-bits _ _ e more)
+      (bit-within _ _ _ (beams-within r e i))
+
+  -- they are those that the report reads
+  pub accepted-bits : (r .n1 ≡ 1 → ⊥)
+      → bitsAt (length (offsets r)) (down (r .n2)) (accepted r .l) (accepted r .m) ≡ bitsRead r
+  unfolding bitsRead
+  accepted-bits more =
+      rw (accepted-l, accepted-m, sym (length-beams r), ne-eqb _ _ more)
+      (bits-of-beams (r .n2) (beams r) (rw (length-beams r) (offsets-few r)))

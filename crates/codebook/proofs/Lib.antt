@@ -1,0 +1,10 @@
+-- Laws of the rules, in the order in which they build up.
+pub mod Booleans
+pub mod First
+pub mod Known
+pub mod Rows
+pub mod Bounds
+pub mod Bits
+pub mod Passed
+pub mod Counts
+pub mod Unique

@@ -1,0 +1,85 @@
+-- `codebook::beams::base_of` meets its contract: each way out has its case. Assumes nothing.
+use mathlib.Core.Path.{_≡_, sym, _∙_}
+use mathlib.Core.Bool.{true, false}
+use native.Mathlib.Omega.{arith}
+use borrow.Author.Needs.{needs}
+use borrow.Author.Tests.{lt-ltb, le-ltb, not-false, not-true}
+use Rattle.codebook.specs.Beams.{modeTwo, halfLength, base}
+use Rattle.codebook.proofs.Bounds.{i11-few, i12-few, i2-few, q-few, g-some}
+use Rattle.codebook.proofs.beams.base_of.Statement.{statement}
+use Rattle.codebook.proofs.beams.base_of.Tie as tie
+
+whole : (c : tie.Else1) → halfLength (c .before .before .args .r) ≡ false
+whole c = sym (c .before .is-half-length .ensures) ∙ c .if1 .left
+
+mode-two : (c : tie.Else2) → modeTwo (c .before .before .before .before .args .r) ≡ true
+mode-two c = sym (c .before .is-mode-two .ensures) ∙ not-false _ (c .if2 .left)
+
+is-half-length-requires : tie.Need-is-half-length-requires
+is-half-length-requires c κs = search needs
+
+mul-t4 : tie.Need-mul-t4
+mul-t4 c = omega (arith, i11-few _ (c .before .before .before .pre))
+
+returns : tie.Need-returns
+unfolding base
+returns c = rw (sym (c .before .before .is-half-length .ensures) ∙ c .before .if1 .taken)
+
+is-mode-two-requires : tie.Need-is-mode-two-requires
+is-mode-two-requires c κs = search needs
+
+returns-2 : tie.Need-returns-2
+unfolding base
+returns-2 c = rw (whole (c .before .before), sym (c .before .is-mode-two .ensures) ∙ not-true _ (c .if2 .taken))
+
+g-of-requires : tie.Need-g-of-requires
+g-of-requires c κs = search needs
+
+div-q : tie.Need-div-q
+div-q c = rw (c .before .g-of .ensures) (g-some (c .before .before .before .before .before .before .args .r .v))
+
+mul-t8 : tie.Need-mul-t8
+mul-t8 c = omega (arith, i11-few _ (c .before .before .before .before .before .before .before .before .before .pre))
+
+add-t10 : tie.Need-add-t10
+add-t10 c = omega (arith, i11-few _ (c .before .before .before .before .before .before .before .before .before .pre))
+
+mul-t11 : tie.Need-mul-t11
+mul-t11 c = omega (arith, i12-few _ (c .before .before .before .before .before .before .before .before .before .before .pre))
+
+add-t13 : tie.Need-add-t13
+add-t13 c = rw (c .before .before .before .before .before .g-of .ensures) (omega (arith, i12-few _ (c .before .before .before .before .before .before .before .before .before .before .pre), i2-few _ (c .before .before .before .before .before .before .before .before .before .before .pre), q-few _ (c .before .before .before .before .before .before .before .before .before .before .pre)))
+
+returns-3 : tie.Need-returns-3
+unfolding base
+returns-3 c = rw (whole (c .before .before .before .before .before .before .before .before), mode-two (c .before .before .before .before .before .before), lt-ltb _ _ (c .before .before .if3 .taken), c .before .before .before .before .before .g-of .ensures)
+
+mul-t7 : tie.Need-mul-t7
+mul-t7 c = omega (arith, i11-few _ (c .before .before .before .before .before .before .before .before .before .pre))
+
+add-t14 : tie.Need-add-t14
+add-t14 c = rw (c .before .before .before .before .g-of .ensures) (omega (arith, i11-few _ (c .before .before .before .before .before .before .before .before .before .pre), i2-few _ (c .before .before .before .before .before .before .before .before .before .pre), q-few _ (c .before .before .before .before .before .before .before .before .before .pre)))
+
+returns-4 : tie.Need-returns-4
+unfolding base
+returns-4 c = rw (whole (c .before .before .before .before .before .before .before), mode-two (c .before .before .before .before .before), le-ltb _ _ (c .before .if3 .left), c .before .before .before .before .g-of .ensures)
+
+pub base-of-spec : {M : Type 1} → statement M
+base-of-spec =
+    tie.close
+    (tie.spec
+    is-half-length-requires
+    mul-t4
+    returns
+    is-mode-two-requires
+    returns-2
+    g-of-requires
+    div-q
+    mul-t8
+    add-t10
+    mul-t11
+    add-t13
+    returns-3
+    mul-t7
+    add-t14
+    returns-4)

@@ -1,0 +1,27 @@
+-- `codebook::beams::n_of` meets its contract: each way out has its case. Assumes nothing.
+use mathlib.Core.Path.{sym, _∙_}
+use borrow.Author.Needs.{needs}
+use Rattle.codebook.specs.Beams.{n}
+use Rattle.codebook.proofs.Bounds.{g-some}
+use Rattle.codebook.proofs.beams.n_of.Statement.{statement}
+use Rattle.codebook.proofs.beams.n_of.Tie as tie
+
+is-mode-two-requires : tie.Need-is-mode-two-requires
+is-mode-two-requires c κs = search needs
+
+g-of-requires : tie.Need-g-of-requires
+g-of-requires c κs = search needs
+
+rem-result : tie.Need-rem-result
+rem-result c = rw (c .before .g-of .ensures) (g-some (c .before .before .before .before .args .r .v))
+
+returns : tie.Need-returns
+unfolding n
+returns c = rw (c .before .g-of .ensures, sym (c .before .before .before .is-mode-two .ensures) ∙ c .before .before .if1 .taken)
+
+returns-2 : tie.Need-returns-2
+unfolding n
+returns-2 c = rw (sym (c .before .is-mode-two .ensures) ∙ c .if1 .left)
+
+pub n-of-spec : {M : Type 1} → statement M
+n-of-spec = tie.close (tie.spec is-mode-two-requires g-of-requires rem-result returns returns-2)

@@ -1,0 +1,13 @@
+-- `codebook::beams::step_for` meets its contract: each way out has its case. Assumes nothing.
+use borrow.Author.Tests.{lt-ltb, le-ltb}
+use Rattle.codebook.proofs.beams.step_for.Statement.{statement}
+use Rattle.codebook.proofs.beams.step_for.Tie as tie
+
+returns : tie.Need-returns
+returns c = rw (lt-ltb _ _ (c .if1 .taken))
+
+returns-2 : tie.Need-returns-2
+returns-2 c = rw (le-ltb _ _ (c .if1 .left))
+
+pub step-for-spec : {M : Type 1} → statement M
+step-for-spec = tie.close (tie.spec returns returns-2)

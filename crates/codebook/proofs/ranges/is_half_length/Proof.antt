@@ -1,0 +1,24 @@
+-- `codebook::ranges::is_half_length` meets its contract: each way out has its case. Assumes nothing.
+use borrow.Author.Needs.{needs}
+use borrow.Author.Tests.{le-leb, lt-leb}
+use Rattle.codebook.specs.Beams.{halfLength}
+use Rattle.codebook.proofs.ranges.is_half_length.Statement.{statement}
+use Rattle.codebook.proofs.ranges.is_half_length.Tie as tie
+
+returns : tie.Need-returns
+unfolding halfLength
+returns c = rw (lt-leb _ _ (c .if1 .taken))
+
+returns-2 : tie.Need-returns-2
+unfolding halfLength
+returns-2 c = rw (le-leb _ _ (c .before .before .if1 .left), lt-leb _ _ (c .if2 .taken))
+
+ports-of-requires : tie.Need-ports-of-requires
+ports-of-requires c κs = search needs
+
+returns-3 : tie.Need-returns-3
+unfolding halfLength
+returns-3 c = rw (le-leb _ _ (c .before .before .before .if1 .left), le-leb _ _ (c .before .if2 .left), c .ports-of .ensures)
+
+pub is-half-length-spec : {M : Type 1} → statement M
+is-half-length-spec = tie.close (tie.spec returns returns-2 ports-of-requires returns-3)

@@ -1,0 +1,45 @@
+-- `codebook::settings::is_setting` meets its contract: no setting has larger numbers, and the table is compared with the list at each smaller pair. Assumes nothing.
+use mathlib.Core.Bool.{Bool, Bool·beq}
+use mathlib.Core.List.{List, [], _∷_}
+use Prim.Native.Nat.{ℕ, _/_, _%_, _^_}
+use native.Mathlib.Omega.{arith}
+use lib.Dec.{eqb}
+use lib.ListN.{getD}
+use borrow.Author.Needs.{needs}
+use Rattle.turn.proofs.Tests.{every, every-at}
+use Rattle.codebook.specs.Lists.{some}
+use Rattle.codebook.specs.Settings.{settings, isSetting}
+use Rattle.codebook.proofs.Booleans.{same-truth, is-false}
+use Rattle.codebook.proofs.Known.{known}
+use Rattle.codebook.proofs.settings.is_setting.Statement.{statement}
+use Rattle.codebook.proofs.settings.is_setting.Tie as tie
+
+-- the code's table
+rows : List ℕ
+rows = 0 ∷ 0b10001000101010110 ∷ 0b101011100 ∷ 0b10000 ∷ 0b10000 ∷ []
+
+right : ℕ → ℕ → Bool
+right n2 n1 = Bool·beq (eqb (getD rows n2 0 / 2 ^ n1 % 2) 1) (isSetting n1 n2)
+
+returns : tie.Need-returns
+returns c = is-false _ (λ e. omega (arith, known _ _ e .n1-few))
+
+returns-2 : tie.Need-returns-2
+returns-2 c = is-false _ (λ e. omega (arith, known _ _ e .n2-few))
+
+mul-row : tie.Need-mul-row
+mul-row c = search needs
+
+array-read-row : tie.Need-array-read-row
+array-read-row c = search needs
+
+shr-result : tie.Need-shr-result
+shr-result c = search needs
+
+returns-3 : tie.Need-returns-3
+unfolding right rows isSetting some settings every
+returns-3 c = same-truth _ _ (every-at 17 (right (c .before .before .args .n2)) (every-at 5 (λ n2. every 17 (right n2)) tt (c .before .before .args .n2) (omega arith)) (c .before .before .args .n1) (omega arith))
+
+pub is-setting-spec : {M : Type 1} → statement M
+is-setting-spec =
+    tie.close (tie.spec returns returns-2 mul-row array-read-row shr-result returns-3)

@@ -1,0 +1,13 @@
+-- `codebook::settings::o1_of` meets its contract: each way out has its case. Assumes nothing.
+use borrow.Author.Tests.{eq-eqb, ne-eqb}
+use Rattle.codebook.proofs.settings.o1_of.Statement.{statement}
+use Rattle.codebook.proofs.settings.o1_of.Tie as tie
+
+returns : tie.Need-returns
+returns c = rw (eq-eqb _ _ (c .if1 .taken))
+
+returns-2 : tie.Need-returns-2
+returns-2 c = rw (ne-eqb _ _ (c .if1 .left))
+
+pub o1-of-spec : {M : Type 1} → statement M
+o1-of-spec = tie.close (tie.spec returns returns-2)
