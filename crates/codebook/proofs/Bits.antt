@@ -80,6 +80,9 @@ bits-of-beams n2 (a ∷ b ∷ c ∷ d ∷ e ∷ xs) h = absurd (let z : suc (suc
 
 -- ---- where they lie
 
+abbrev pub none : Beam
+none = beam 0 0
+
 -- a beam within the setting
 pub record Within (n1 n2 : ℕ) (x : Beam) : Type 0 where
   pub l : x .l < across n1
@@ -102,19 +105,14 @@ beams-within r e i = go (offsets r) i
     go (k ∷ ks) zero = record { l = reduced k .0; m = reduced k .1 }
     go (k ∷ ks) (suc i) = go ks i
 
-pub l-at : (xs : List Beam) (i : ℕ) → i < 4 → getD (lOf xs) i 0 ≡ getD xs i (beam 0 0) .l
-l-at xs zero h = refl
-l-at xs (suc zero) h = refl
-l-at xs (suc (suc zero)) h = refl
-l-at xs (suc (suc (suc zero))) h = refl
-l-at xs (suc (suc (suc (suc i)))) h = absurd (let z : suc (suc (suc (suc i))) < 4 = h in omega arith)
-
-pub m-at : (xs : List Beam) (i : ℕ) → i < 4 → getD (mOf xs) i 0 ≡ getD xs i (beam 0 0) .m
-m-at xs zero h = refl
-m-at xs (suc zero) h = refl
-m-at xs (suc (suc zero)) h = refl
-m-at xs (suc (suc (suc zero))) h = refl
-m-at xs (suc (suc (suc (suc i)))) h = absurd (let z : suc (suc (suc (suc i))) < 4 = h in omega arith)
+-- one number of each of four beams, by place
+pub four-at : (g : Beam → ℕ) (xs : List Beam) (i : ℕ) → i < 4
+    → getD (g (getD xs 0 none) ∷ g (getD xs 1 none) ∷ g (getD xs 2 none) ∷ g (getD xs 3 none) ∷ []) i 0 ≡ g (getD xs i none)
+four-at g xs zero h = refl
+four-at g xs (suc zero) h = refl
+four-at g xs (suc (suc zero)) h = refl
+four-at g xs (suc (suc (suc zero))) h = refl
+four-at g xs (suc (suc (suc (suc i)))) h = absurd (omega arith)
 
 pub offsets-few : (r : Report) → length (offsets r) ≤ 4
 unfolding offsets
@@ -153,7 +151,7 @@ module _ (r : Report) where
       → down (r .n2) * getD (accepted r .l) i 0 + getD (accepted r .m) i 0 < 8 * maskBytes (r .n1) (r .n2)
   unfolding beamBit
   accepted-bit e more i h =
-      rw (accepted-l, accepted-m, l-at (beams r) i h, m-at (beams r) i h, mask-bits _ _ e more)
+      rw (accepted-l, accepted-m, four-at (λ x. x .l) (beams r) i h, four-at (λ x. x .m) (beams r) i h, mask-bits _ _ e more)
       (bit-within _ _ _ (beams-within r e i))
 
   -- they are those that the report reads

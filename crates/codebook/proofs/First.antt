@@ -1,5 +1,5 @@
 -- The first of a list of tests, by its parts; and what it means that none holds. Assumes nothing.
-use mathlib.Core.Path.{_≡_, refl}
+use mathlib.Core.Path.{_≡_, refl, sym, ap}
 use mathlib.Core.Bool.{Bool, true, false, cond, _&&_}
 use mathlib.Core.List.{List, [], _∷_, _++_}
 use Prim.Native.Nat.{ℕ, _<_}
@@ -43,3 +43,33 @@ pub none-first : (xs ys : List (Bool × ℕ)) → None xs → first (xs ++ ys) �
 unfolding first
 none-first [] ys n = refl
 none-first (x ∷ xs) ys n = rw (n .0) (none-first xs ys (n .1))
+
+-- where no test holds the number is 0
+pub none-zero : (xs : List (Bool × ℕ)) → None xs → first xs ≡ 0
+unfolding first
+none-zero [] n = refl
+none-zero (x ∷ xs) n = rw (n .0) (none-zero xs (n .1))
+
+-- k stands beside the first test that holds
+pub record FirstOf (xs : List (Bool × ℕ)) (k : ℕ) : Type 0 where
+  pub before : List (Bool × ℕ)
+  pub after : List (Bool × ℕ)
+  pub parts : xs ≡ before ++ ((true, k) ∷ after)
+  pub none : None before
+
+pub first-of : (xs : List (Bool × ℕ)) → (first xs ≡ 0 → ⊥) → FirstOf xs (first xs)
+unfolding first
+first-of [] h = absurd (h refl)
+first-of (x ∷ xs) h = go (x .0) refl h (first-of xs)
+  where
+    go : (b : Bool) → x .0 ≡ b → (cond b (x .1) (first xs) ≡ 0 → ⊥) → ((first xs ≡ 0 → ⊥) → FirstOf xs (first xs))
+        → FirstOf (x ∷ xs) (cond b (x .1) (first xs))
+    go true e h later = record { before = []; after = xs; parts = rw (sym e); none = tt }
+    go false e h later =
+        let p = later h in
+        record {
+          before = x ∷ p .before;
+          after = p .after;
+          parts = ap {B = List (Bool × ℕ)} (λ ys. x ∷ ys) (p .parts);
+          none = (e, p .none);
+        }

@@ -5,6 +5,7 @@ pub mod Known
 pub mod Rows
 pub mod Bounds
 pub mod Bits
+pub mod Layers
 pub mod Passed
 pub mod Counts
 pub mod Unique

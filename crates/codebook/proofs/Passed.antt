@@ -10,9 +10,9 @@ use borrow.Author.Tests.{not-false, eqb-true, eqb-false, lt-ltb, le-ltb, ltb-fal
 use Rattle.codebook.specs.declared.Report.{Report}
 use Rattle.codebook.specs.Lists.{first}
 use Rattle.codebook.specs.Settings.{isSetting, ports, maskBytes}
-use Rattle.codebook.specs.Masks.{barred}
+use Rattle.codebook.specs.Masks.{barred, rankBarred}
 use Rattle.codebook.specs.Refusals.{onSetting, onRank, onIndices, onAnswer, refusals, refusal}
-use Rattle.codebook.specs.Choice.{InRange, refused, judged}
+use Rattle.codebook.specs.Choice.{InRange, refused, accepted, judged}
 use Rattle.codebook.proofs.Booleans.{or-false}
 use Rattle.codebook.proofs.First.{None, first-stop, first-none, none-first}
 
@@ -114,3 +114,33 @@ module _ (r : Report) (mask : List ℕ) (ranks : ℕ) where
 pub judged-refused : (r : Report) (k : ℕ) → (k ≡ 0 → ⊥) → refused k ≡ judged r k
 judged-refused r zero h = absurd (h refl)
 judged-refused r (suc k) h = refl
+
+pub judged-number : (r : Report) (k : ℕ) → judged r k .refusal ≡ k
+unfolding accepted
+judged-number r zero = refl
+judged-number r (suc k) = refl
+
+-- ---- a report to which none of 1 to 11 applies
+
+pub record Accepted (r : Report) (mask : List ℕ) (ranks room : ℕ) : Type 0 where
+  pub in-range : InRange r
+  pub mask-length : length mask ≡ maskBytes (r .n1) (r .n2)
+  pub rank : rankBarred ranks r ≡ false
+  pub beams : barred mask r ≡ false
+  pub fits : r .v * ports (r .n1) (r .n2) ≤ room
+
+pub accepted-of : (r : Report) (mask : List ℕ) (ranks room : ℕ) → refusal r mask ranks room ≡ 0 → Accepted r mask ranks room
+unfolding refusal refusals onSetting onRank onIndices onAnswer
+accepted-of r mask ranks room e =
+    let n = first-none (refusals r mask ranks room) tt e in
+    let s : None (onSetting r (length mask)) = (n .0, (n .1 .0, (n .1 .1 .0, tt))) in
+    let k : None (onRank r ranks) = (n .1 .1 .1 .0, (n .1 .1 .1 .1 .0, tt)) in
+    let rest = n .1 .1 .1 .1 .1 in
+    let i : None (onIndices r) = (rest .0, (rest .1 .0, (rest .1 .1 .0, (rest .1 .1 .1 .0, tt)))) in
+    record {
+      in-range = in-range r (length mask) ranks s k i;
+      mask-length = mask-fits r (length mask) s;
+      rank = k .1 .0;
+      beams = rest .1 .1 .1 .1 .0;
+      fits = ltb-false _ _ (rest .1 .1 .1 .1 .1 .0);
+    }

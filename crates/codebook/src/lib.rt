@@ -10,6 +10,7 @@ mod refusals;
 mod settings;
 
 // A report: the setting (N1,N2), the codebook mode, the rank v, and the indices.
+#[repr(C)]
 pub struct Report {
     pub n1: u32,
     pub n2: u32,

@@ -1,0 +1,15 @@
+// The library's face to C. In C a struct goes by value, and a slice is a pointer and a length.
+ghost use Rattle.precoder.specs.Answer.{Phases};
+
+// `precoder::phases` for C: see there.
+#[no_mangle]
+pub extern "C" fn aspenflick_phases(
+    r: codebook::Report,
+    beams: &[u8],
+    ranks: u8,
+    out: &mut [u8],
+) -> precoder::Record
+    ensures { λ a. ⌜ Phases r (now (beams .entry)) ranks (now (out .entry)) a (now (out .exit)) ⌝ }
+{
+    precoder::phases(r, beams, ranks, out)
+}

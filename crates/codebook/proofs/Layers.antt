@@ -1,0 +1,183 @@
+-- The layers of a report: how many there are, and the size of their columns. Assumes nothing.
+use mathlib.Core.Path.{_≡_, refl, sym, ap, _∙_, subst}
+use mathlib.Core.Bool.{Bool, true, false, cond, _&&_, _||_}
+use mathlib.Core.List.{List, [], _∷_, _++_, map, append-nil, append-assoc}
+use Prim.Native.Nat.{ℕ, zero, suc, _+_, _-_, _*_, _/_, _%_, _<_, _≤_}
+use native.Mathlib.Nat.{zero-mul, not-suc-le-zero, le-of-suc-le-suc}
+use native.Mathlib.Omega.{arith}
+use lib.Dec.{T, eqb, leb, eqb→eq, leb→le}
+use lib.ListN.{length, getD, take, length-append, length-map, List·getD-map}
+use lib.Seq.{length-take-le, getD-take}
+use Rattle.turn.specs.Phase.{phase}
+use Rattle.turn.specs.Column.{product, column}
+use Rattle.turn.proofs.Lists.{length-product, length-grid}
+use Rattle.turn.proofs.Tests.{and-left, and-right, or-else, every, every-at}
+use Rattle.codebook.specs.declared.Report.{Report}
+use Rattle.codebook.specs.Lists.{join}
+use Rattle.codebook.specs.Settings.{settings, isSetting, ports}
+use Rattle.codebook.specs.Ranks.{Bracket, _⨾_, ranks, quarters}
+use Rattle.codebook.specs.Beams.{halfLength}
+use Rattle.codebook.specs.Matrix.{Layer, fOf, tOf, whole, quartered, layers, blocks, rows, block, columnOf, matrix}
+use Rattle.codebook.specs.Choice.{InRange}
+use Rattle.codebook.proofs.Known.{Known, known, at-setting}
+
+-- ---- half-length beams
+
+-- where they are used
+pub record Halved (r : Report) : Type 0 where
+  pub some : 3 ≤ r .v
+  pub few : r .v ≤ 4
+  pub many : 16 ≤ ports (r .n1) (r .n2)
+
+pub halved : (r : Report) → halfLength r ≡ true → Halved r
+unfolding halfLength
+halved r e =
+    let a = leb 3 (r .v) in
+    let b = leb (r .v) 4 in
+    let d = leb 16 (ports (r .n1) (r .n2)) in
+    let t : T (a && b && d) = subst T (sym e) tt in
+    record {
+      some = leb→le 3 (r .v) (and-left a b (and-left (a && b) d t));
+      few = leb→le (r .v) 4 (and-right a b (and-left (a && b) d t));
+      many = leb→le 16 (ports (r .n1) (r .n2)) (and-right (a && b) d t);
+    }
+
+-- N1 is even there
+pub even-rows : (n1 n2 : ℕ) → isSetting n1 n2 ≡ true → 16 ≤ ports n1 n2 → n1 % 2 ≡ 0
+unfolding settings
+even-rows n1 n2 e h =
+    eqb→eq (n1 % 2) 0
+    (or-else (leb (ports n1 n2) 15) (eqb (n1 % 2) 0) (λ f. let g = leb→le (ports n1 n2) 15 f in omega arith)
+    (at-setting n1 n2 (λ a b. leb (ports a b) 15 || eqb (a % 2) 0) tt e))
+
+-- ---- layers
+
+-- one list more
+pub join-next : {A : Type 0} (f : A → List ℕ) (xs : List A) (j : ℕ) (x : A) → j < length xs
+    → join (map f (take (suc j) xs)) ≡ join (map f (take j xs)) ++ f (getD xs j x)
+unfolding join
+join-next f [] j x h = absurd (not-suc-le-zero h)
+join-next f (y ∷ xs) zero x h = append-nil (f y)
+join-next f (y ∷ xs) (suc j) x h =
+    ap (λ (l : List ℕ). f y ++ l) (join-next f xs j x (le-of-suc-le-suc h))
+    ∙ sym (append-assoc (f y) (join (map f (take j xs))) (f (getD xs j x)))
+
+-- v brackets at rank v
+pub length-rank : (k : ℕ) → k < 8 → length (getD ranks k []) ≡ k + 1
+unfolding ranks every
+length-rank k h =
+    eqb→eq (length (getD ranks k [])) (k + 1) (every-at 8 (λ n. eqb (length (getD ranks n [])) (n + 1)) tt k h)
+
+-- v layers at rank v
+pub length-layers : (r : Report) → InRange r → length (layers r) ≡ r .v
+unfolding layers quarters
+length-layers r h = by-length (halfLength r) refl
+  where
+    halves : List (List ℕ)
+    halves = take (r .v) (quarters (fOf r) (tOf r))
+
+    brackets : List Bracket
+    brackets = getD ranks (r .v - 1) []
+
+    by-length : (b : Bool) → halfLength r ≡ b → length (cond b (map (quartered r) halves) (map (whole r) brackets)) ≡ r .v
+    by-length true e =
+        length-map halves (quartered r) ∙ length-take-le (r .v) (quarters (fOf r) (tOf r)) (halved r e .few)
+    by-length false e =
+        length-map brackets (whole r)
+        ∙ length-rank (r .v - 1) (omega (arith, h .some, h .few))
+        ∙ omega (arith, h .some)
+
+-- ---- columns
+
+-- the rows of a block, few enough to be counted; and all blocks, an entry for each port
+pub record Sized (r : Report) (blocks rows : ℕ) : Type 0 where
+  pub some : 1 ≤ rows
+  pub few : rows ≤ 16
+  pub all : blocks * (rows * r .n2) ≡ ports (r .n1) (r .n2)
+
+pub column-sized : (r : Report) → isSetting (r .n1) (r .n2) ≡ true → Sized r (blocks r) (rows r)
+column-sized r e = by-length (halfLength r) refl
+  where
+    k : Known (r .n1) (r .n2)
+    k = known (r .n1) (r .n2) e
+
+    by-length : (b : Bool) → halfLength r ≡ b → Sized r (cond b 4 2) (cond b (r .n1 / 2) (r .n1))
+    by-length true f =
+        let even = even-rows (r .n1) (r .n2) e (halved r f .many) in
+        let twice : r .n1 / 2 * 2 ≡ r .n1 = omega arith in
+        record {
+          some = omega (arith, k .n1-some);
+          few = omega (arith, k .n1-few);
+          all = omega (arith, ap (λ (n : ℕ). n * r .n2) twice);
+        }
+    by-length false f = record { some = k .n1-some; few = k .n1-few; all = refl }
+
+-- ---- the matrix
+
+length-join : {A : Type 0} (f : A → List ℕ) (xs : List A) (x : A) (w : ℕ)
+    → ((j : ℕ) → j < length xs → length (f (getD xs j x)) ≡ w) → length (join (map f xs)) ≡ length xs * w
+unfolding join
+length-join f [] x w h = sym (zero-mul w)
+length-join f (y ∷ xs) x w h =
+    length-append (f y) (join (map f xs))
+    ∙ omega (arith, h 0 (omega arith), length-join f xs x w (λ j k. h (suc j) (omega arith)))
+
+-- four quarters
+length-quarters : (f t j : ℕ) → j < 4 → length (getD (quarters f t) j []) ≡ 4
+unfolding quarters
+length-quarters f t zero h = refl
+length-quarters f t (suc zero) h = refl
+length-quarters f t (suc (suc zero)) h = refl
+length-quarters f t (suc (suc (suc zero))) h = refl
+length-quarters f t (suc (suc (suc (suc j)))) h = absurd (omega arith)
+
+module _ (r : Report) where
+  quarters-co : (co : List ℕ) → length (quartered r co .co) ≡ length co
+  unfolding quartered
+  quarters-co co = refl
+
+  whole-co : (b : Bracket) → length (whole r b .co) ≡ 2
+  unfolding whole
+  whole-co b = refl
+
+  length-column : (x : Layer) → length (columnOf r x) ≡ length (x .co) * (rows r * r .n2)
+  unfolding columnOf block column
+  length-column x =
+      length-map (product (x .co) (block r (x .beam))) phase
+      ∙ length-product (x .co) (block r (x .beam))
+      ∙ ap (λ (n : ℕ). length (x .co) * n) (length-grid (rows r) _ (r .n2) _)
+
+  -- past the last layer
+  past : Layer
+  past = cond (halfLength r) (quartered r []) (whole r (0 ⨾ 0))
+
+  -- a co-phase for each block
+  length-co : InRange r → (j : ℕ) → j < r .v → length (getD (layers r) j past .co) ≡ blocks r
+  unfolding layers past
+  length-co h j k = by-length (halfLength r) refl
+    where
+      halves : List (List ℕ)
+      halves = quarters (fOf r) (tOf r)
+
+      brackets : List Bracket
+      brackets = getD ranks (r .v - 1) []
+
+      by-length : (b : Bool) → halfLength r ≡ b
+          → length (getD (cond b (map (quartered r) (take (r .v) halves)) (map (whole r) brackets)) j (cond b (quartered r []) (whole r (0 ⨾ 0))) .co)
+          ≡ cond b 4 2
+      by-length true e =
+          ap (λ (x : Layer). length (x .co)) (List·getD-map (quartered r) (take (r .v) halves) j [])
+          ∙ quarters-co (getD (take (r .v) halves) j [])
+          ∙ ap length (getD-take (r .v) halves j [] k)
+          ∙ length-quarters (fOf r) (tOf r) j (omega (arith, halved r e .few))
+      by-length false e = ap (λ (x : Layer). length (x .co)) (List·getD-map (whole r) brackets j (0 ⨾ 0)) ∙ whole-co (getD brackets j (0 ⨾ 0))
+
+  -- an entry for each port in each layer
+  pub length-matrix : InRange r → length (matrix r) ≡ r .v * ports (r .n1) (r .n2)
+  unfolding matrix
+  length-matrix h =
+      length-join (columnOf r) (layers r) past (ports (r .n1) (r .n2))
+      (λ j k. length-column (getD (layers r) j past)
+      ∙ ap (λ (n : ℕ). n * (rows r * r .n2)) (length-co h j (omega (arith, length-layers r h)))
+      ∙ column-sized r (h .setting) .all)
+      ∙ ap (λ (n : ℕ). n * ports (r .n1) (r .n2)) (length-layers r h)

@@ -1,0 +1,9 @@
+-- Laws that the proofs share, then theorems.
+pub mod Written
+pub mod Columns
+pub mod Framing
+pub mod Digits
+pub mod Answers
+pub mod Demands
+pub mod Worked
+pub mod Unique

@@ -1,0 +1,132 @@
+-- The worked reports of 01, as one table, and one theorem that every row of it holds. Assumes nothing.
+use mathlib.Core.Path.{_≡_, refl}
+use mathlib.Core.List.{List, [], _∷_, map}
+use Prim.Native.Nat.{ℕ, _*_}
+use lib.ListN.{length, take, drop, replicate}
+use Rattle.turn.specs.Phase.{third, difference}
+use Rattle.turn.specs.Column.{steps, product, grid, step, column}
+use Rattle.turn.specs.Exact.{count, differences}
+use Rattle.codebook.specs.declared.Report.{Report}
+use Rattle.codebook.specs.Lists.{some, join, first}
+use Rattle.codebook.specs.Settings.{settings, isSetting, maskBytes}
+use Rattle.codebook.specs.Ranks.{ranks, quarters}
+use Rattle.codebook.specs.Beams.{modeTwo, halfLength, n, base, kTwo, kThree, kRows, offsets, moved, beams}
+use Rattle.codebook.specs.Ranges.{halvesI11, i11Values, halvesI12, i12Values, i13Values, i2Values}
+use Rattle.codebook.specs.Matrix.{addedOf, whole, quartered, layers, block, columnOf, matrix}
+use Rattle.codebook.specs.Masks.{bit, beamBit, twoPortBit, bitsRead, isZero, barred, rankBarred}
+use Rattle.codebook.specs.Refusals.{onSetting, onRank, onIndices, onAnswer, refusals, refusal}
+use Rattle.precoder.specs.declared.Record.{Record}
+use Rattle.precoder.specs.Answer.{recordOf, bufferOf}
+
+-- a report with its beam mask and the length of the lent buffer; the record that it is given; and entries of the buffer
+-- afterwards, from a place on
+pub record Row : Type 0 where
+  pub report : Report
+  pub mask : List ℕ
+  pub room : ℕ
+  pub given : Record
+  pub place : ℕ
+  pub entries : List ℕ
+
+-- N1 N2 mode v i11 i12 i13 i2, as the printing program reads them
+abbrev asks : ℕ → ℕ → ℕ → ℕ → ℕ → ℕ → ℕ → ℕ → Report
+asks n1 n2 mode v i11 i12 i13 i2 =
+    record { n1 = n1; n2 = n2; mode = mode; v = v; i11 = i11; i12 = i12; i13 = i13; i2 = i2 }
+
+-- a mask of so many bytes, all bits ones
+ones : ℕ → List ℕ
+ones bytes = replicate bytes 255
+
+-- a buffer as it is lent: no phase
+lent : ℕ → List ℕ
+lent room = replicate room 255
+
+-- accepted, with some of its entries
+abbrev accepts : Report → List ℕ → ℕ → ℕ → ℕ → ℕ → List ℕ → Row
+accepts r mask p v scale place entries =
+    record {
+      report = r;
+      mask = mask;
+      room = scale;
+      given = record { refusal = 0; ports = p; layers = v; scale = scale };
+      place = place;
+      entries = entries;
+    }
+
+-- refused, and the whole buffer as lent
+abbrev refuses : Report → List ℕ → ℕ → ℕ → Row
+refuses r mask room k =
+    record {
+      report = r;
+      mask = mask;
+      room = room;
+      given = record { refusal = k; ports = 0; layers = 0; scale = 0 };
+      place = 0;
+      entries = lent room;
+    }
+
+pub rows : List Row
+rows =
+    -- 1 and 2
+    accepts (asks 2 1 1 1 1 0 0 1) (ones 1) 4 1 4 0 (0 ∷ 24 ∷ 48 ∷ 72 ∷ [])
+    ∷ accepts (asks 2 1 1 2 7 0 1 0) (ones 1) 4 2 8 0 (0 ∷ 168 ∷ 0 ∷ 168 ∷ 0 ∷ 72 ∷ 96 ∷ 168 ∷ [])
+    -- 3: beam 9 is beam 1; with its bit zero
+    ∷ accepts (asks 2 1 2 1 3 0 0 15) (ones 1) 4 1 4 0 (0 ∷ 24 ∷ 144 ∷ 168 ∷ [])
+    ∷ refuses (asks 2 1 2 1 3 0 0 15) (253 ∷ []) 4 10
+    -- 4: layer 2
+    ∷ accepts (asks 3 2 1 3 0 0 3 0) (ones 12) 12 3 36 12
+    (0 ∷ 0 ∷ 128 ∷ 128 ∷ 64 ∷ 64 ∷ 0 ∷ 0 ∷ 128 ∷ 128 ∷ 64 ∷ 64 ∷ [])
+    -- 5: layer 1
+    ∷ accepts (asks 8 1 1 3 1 0 1 1) (ones 4) 16 3 48 0
+    (0 ∷ 12 ∷ 24 ∷ 36 ∷ 24 ∷ 36 ∷ 48 ∷ 60 ∷ 48 ∷ 60 ∷ 72 ∷ 84 ∷ 72 ∷ 84 ∷ 96 ∷ 108 ∷ [])
+    -- 6
+    ∷ accepts (asks 1 1 1 2 0 0 0 1) (ones 1) 2 2 4 0 (0 ∷ 48 ∷ 0 ∷ 144 ∷ [])
+    ∷ refuses (asks 1 1 1 2 0 0 0 2) (ones 1) 4 9
+    -- 7
+    ∷ accepts (asks 4 1 1 7 7 0 0 0) (ones 2) 8 7 56 0 []
+    ∷ refuses (asks 4 1 1 7 8 0 0 0) (ones 2) 56 6
+    -- 8
+    ∷ accepts (asks 3 2 1 8 0 3 0 0) (ones 12) 12 8 96 0 []
+    ∷ refuses (asks 3 2 1 8 0 4 0 0) (ones 12) 96 7
+    -- 9
+    ∷ refuses (asks 2 1 1 5 0 0 0 0) (ones 1) 20 4
+    ∷ refuses (asks 2 1 1 1 0 1 0 0) (ones 1) 4 7
+    ∷ refuses (asks 2 1 1 1 0 0 1 0) (ones 1) 4 8
+    ∷ refuses (asks 2 1 1 2 0 0 2 0) (ones 1) 8 8
+    -- 10
+    ∷ refuses (asks 2 1 1 1 1 0 0 1) (ones 1) 3 11
+    ∷ []
+
+-- what a row says, and what the definitions give; all bits of the rank mask are ones
+pub said : Row → Record × List ℕ
+said x = (x .given, x .entries)
+
+pub given : Row → Record × List ℕ
+given x = (
+  recordOf (x .report) (refusal (x .report) (x .mask) 255 (x .room)),
+  take (length (x .entries))
+      (drop (x .place) (bufferOf (refusal (x .report) (x .mask) 255 (x .room)) (matrix (x .report)) (lent (x .room)))),
+)
+
+pub worked : map given rows ≡ map said rows
+unfolding
+    rows ones lent said given
+    steps product grid step column
+    some join first settings isSetting maskBytes ranks quarters
+    modeTwo halfLength n base kTwo kThree kRows offsets moved beams
+    halvesI11 i11Values halvesI12 i12Values i13Values i2Values
+    addedOf whole quartered layers block columnOf matrix
+    bit beamBit twoPortBit bitsRead isZero barred rankBarred
+    onSetting onRank onIndices onAnswer refusals refusal
+worked = refl
+
+-- case 4: layers 1 and 2 differ by 0, a third and two thirds of a turn, four of the twelve ports each
+pub case-four :
+    map (count (differences (take 12 (matrix (asks 3 2 1 3 0 0 3 0))) (take 12 (drop 12 (matrix (asks 3 2 1 3 0 0 3 0))))))
+    (0 ∷ third ∷ 2 * third ∷ [])
+    ≡ 4 ∷ 4 ∷ 4 ∷ []
+unfolding
+    steps product grid step column count difference differences
+    join ranks modeTwo halfLength n base kThree kRows offsets moved beams
+    addedOf whole layers block columnOf matrix
+case-four = refl

@@ -1,0 +1,29 @@
+-- The layer of a report that a digit stands for.
+use mathlib.Core.Bool.{cond}
+use mathlib.Core.List.{List, [], _∷_}
+use Prim.Native.Nat.{ℕ, _+_, _/_, _%_}
+use lib.ListN.{getD, take}
+use Rattle.codebook.specs.declared.Report.{Report}
+use Rattle.codebook.specs.Ranks.{Bracket, _⨾_}
+use Rattle.codebook.specs.Beams.{beam, halfLength, beams}
+use Rattle.codebook.specs.Matrix.{Layer, fOf, tOf, addedOf, whole, quartered, blocks}
+
+-- the beam at a place, with as many co-phases as the report's columns have blocks
+unfoldable pub onBeam : Report → ℕ → List ℕ → Layer
+onBeam r place co = record { beam = getD (beams r) place (beam 0 0); co = take (blocks r) co }
+
+-- a digit is 4 times the place of a beam, and what is added
+abbrev pub bracket : ℕ → Bracket
+bracket digit = digit / 4 ⨾ digit % 4
+
+-- at half-length beams B stands for t, and B′ for t and half a turn: z
+abbrev pub second : ℕ → ℕ → ℕ
+second t place = addedOf t ((2 + place) % 4)
+
+-- the four quarters: 0, z, y, y + z
+abbrev pub four : ℕ → ℕ → Bracket → List ℕ
+four f t b =
+    0 ∷ second t (b .beam) ∷ addedOf f (b .added) ∷ (addedOf f (b .added) + second t (b .beam)) ∷ []
+
+unfoldable pub layerOf : Report → Bracket → Layer
+layerOf r b = cond (halfLength r) (quartered r (four (fOf r) (tOf r) b)) (whole r b)

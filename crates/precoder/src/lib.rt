@@ -1,0 +1,54 @@
+// The precoder of a report, written into a lent buffer.
+use codebook::Report;
+ghost use mathlib.Core.Path.{_≡_};
+ghost use Rattle.codebook.specs.Choice.{InRange};
+ghost use Rattle.precoder.specs.Answer.{recordOf, Phases};
+
+mod fill;
+mod layers;
+
+// What a call answers: the number of the refusal and zeros, or 0, the ports P, the layers v and the scale v·P. A true
+// precoder is the entries divided by the square root of the scale.
+#[repr(C)]
+pub struct Record {
+    pub refusal: u32,
+    pub ports: u32,
+    pub layers: u32,
+    pub scale: u32,
+}
+
+// The record of an accepted report.
+fn accepted(r: Report) -> Record
+    requires { ⌜ InRange r ⌝ }
+    ensures { λ a. ⌜ a ≡ recordOf r 0 ⌝ }
+{
+    let p = 2 * (r.n1 * r.n2);
+    let v = r.v;
+    let scale = v * p;
+    Record {
+        refusal: 0,
+        ports: p,
+        layers: v,
+        scale: scale,
+    }
+}
+
+// Writes the phases of a report's precoder, in parts of a turn: layer after layer, each of P entries. `beams` is the beam
+// mask and `ranks` the rank mask: a report that reads a zero bit is refused. A refusal is given by its number and leaves
+// the buffer as lent; entries past an answer stay as lent too. Nothing is pulled into range: every setting, mask, report
+// and buffer has its answer.
+pub fn phases(r: Report, beams: &[u8], ranks: u8, out: &mut [u8]) -> Record
+    ensures { λ a. ⌜ Phases r (now (beams .entry)) ranks (now (out .entry)) a (now (out .exit)) ⌝ }
+{
+    let c = codebook::judge(r, beams, ranks, out.len());
+    if c.refusal != 0 {
+        return Record {
+            refusal: c.refusal,
+            ports: 0,
+            layers: 0,
+            scale: 0,
+        };
+    }
+    layers::matrix(r, c, out);
+    accepted(r)
+}

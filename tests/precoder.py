@@ -1,0 +1,842 @@
+#!/usr/bin/env python3
+"""Tests aspenflick_phases against the complex matrices of TS 38.214, 5.2.2.2.1.
+
+    precoder.py COMMAND..
+
+COMMAND starts the program built from batch.c, which calls aspenflick_phases once for each request on its standard input.
+The last line is `N passed, M failed`; the exit status is 0 only if N is above 0 and M is 0.
+
+Where the expected answers come from
+------------------------------------
+Phases: the matrix W of a report is computed in complex numbers as the standard prints it, with its factor 1/sqrt(v P);
+the phase of an entry is read off its angle in 1/192 turns. No phase is computed in whole numbers. The quantities phi_n,
+theta_p, u_m, v_{l,m}, v~_{l,m} and the tables are those of the draft (003), and for 6 to 8 layers also those of the later
+excerpts (000, 002):
+
+    Table 5.2.2.2.1-1    two ports              -5           1 layer
+                   -2    settings               -6           2 layers
+                   -3    k1, k2 for v=2         -7 and -8    3 and 4 layers, P < 16 and P >= 16
+                   -4    k1, k2 for v=3, 4      -9 to -12    5 to 8 layers
+
+Refusals, their order, the ranges and the mask bits: 01.
+
+Points legible in none of the sources, taken from 01:
+  - the matrix of 7 layers (Table -11 has 8 columns in 000, 7 above 8 in 003, 6 and a third row in 002);
+  - m' of 5 layers for N2 > 1 (the subscripts of W(5) in Table -9 lack one of l, l', l'', m, m', m'');
+  - l', and with it m', of mode 2 with 2 layers (Table -6 prints 2 i11 + k1 beside l = 2 i11 + 1, but 2 i11 + 2 + k1 beside
+    l = 2 i11 + 2; in 01 it is always l + k1).
+Points where the sources differ from 01 or from each other, and 01 decides:
+  - Table -2 puts (12,1) among 32 ports; P is 2 N1 N2, so 24. (1,1), the two ports of Table -1, is a setting in 01;
+  - Table -6, mode 1, prints i12 + k1, and Table -8 prints i12, k1, for l'; it is i11 + k1;
+  - v~_{l,m} is barred by three bits in 003, by the one of (2 l, m) in 01;
+  - bit 0 of a mask is bit 0 of its first byte in 01; the standard has bit strings, with no bytes.
+
+What is sent
+------------
+  phases     every report in range of every setting, mode and rank, into a buffer just long enough and one entry longer
+  masks      every report in range, with only the bits it reads ones, and with each bit it reads the only zero
+  ranks      every rank mask, for every setting, mode and rank
+  bounds     each number of a report and both lengths on both sides of their bounds and at values that 8, 16 or 31 bits
+             cut down to legal ones; all pairs up to 33 x 33 that are not settings
+  order      all pairs of faults for every setting, mode and rank, and all sets of two or more faults for every setting
+  random     requests drawn from legal numbers, bounds and extremes, answered by the whole model
+On a refusal the record's other numbers are 0 and the buffer is as lent. Bytes around the buffer and the mask, and the mask,
+never change.
+"""
+
+import array
+import cmath
+import collections
+import functools
+import itertools
+import math
+import random
+import struct
+import subprocess
+import sys
+
+TURN = 192
+
+# ---- Settings (01; Table 5.2.2.2.1-2) ----------------------------------------------------------------------------------
+
+Setting = collections.namedtuple('Setting', 'N1 N2 O1 O2 P')
+
+PORTS = {2: [(1, 1)],
+         4: [(2, 1)],
+         8: [(2, 2), (4, 1)],
+         12: [(3, 2), (6, 1)],
+         16: [(4, 2), (8, 1)],
+         24: [(4, 3), (6, 2), (12, 1)],
+         32: [(4, 4), (8, 2), (16, 1)]}
+
+# Two ports use neither O1 nor O2 (Table -1); 1 stands for them.
+SETTINGS = {(N1, N2): Setting(N1, N2, 4 if P > 2 else 1, 4 if N2 > 1 else 1, P)
+            for P, pairs in PORTS.items() for N1, N2 in pairs}
+
+MODES = (1, 2)
+
+
+def ranks_of(s):
+    """The ranks v of a setting: 1 to 8, none above P."""
+    return range(1, min(8, s.P) + 1)
+
+
+# ---- Quantities (5.2.2.2.1) --------------------------------------------------------------------------------------------
+
+def phi(n):
+    return cmath.exp(1j * cmath.pi * n / 2)
+
+
+def theta(p):
+    return cmath.exp(1j * cmath.pi * p / 4)
+
+
+def u(s, m):
+    if s.N2 == 1:
+        return [1]
+    return [cmath.exp(2j * cmath.pi * m * b / (s.O2 * s.N2)) for b in range(s.N2)]
+
+
+def v_beam(s, l, m):
+    """v_{l,m}: u_m once for each a, times exp(j 2 pi l a / (O1 N1))."""
+    return [cmath.exp(2j * cmath.pi * l * a / (s.O1 * s.N1)) * x for a in range(s.N1) for x in u(s, m)]
+
+
+def v_tilde(s, l, m):
+    """v~_{l,m}, the half-length beam: N1/2 rows, exp(j 4 pi l a / (O1 N1))."""
+    return [cmath.exp(4j * cmath.pi * l * a / (s.O1 * s.N1)) * x for a in range(s.N1 // 2) for x in u(s, m)]
+
+
+def one(s, l, m):
+    """The single entry of a port of Table 5.2.2.2.1-1."""
+    return [1]
+
+
+# A beam by name: one of the three functions above, and l and m as the tables give them, not reduced.
+Beam = collections.namedtuple('Beam', 'vector l m')
+
+# ---- k1 and k2, in multiples of O1 and O2 ------------------------------------------------------------------------------
+
+
+def table_3(N1, N2):
+    """Table 5.2.2.2.1-3, 2 layers."""
+    if N1 > N2 > 1:
+        return [(0, 0), (1, 0), (0, 1), (2, 0)]
+    if N1 == N2:
+        return [(0, 0), (1, 0), (0, 1), (1, 1)]
+    if N1 == 2 and N2 == 1:
+        return [(0, 0), (1, 0)]
+    return [(0, 0), (1, 0), (2, 0), (3, 0)]
+
+
+# Table 5.2.2.2.1-4, 3 and 4 layers, P < 16.
+TABLE_4 = {(2, 1): [(1, 0)],
+           (4, 1): [(1, 0), (2, 0), (3, 0)],
+           (6, 1): [(1, 0), (2, 0), (3, 0), (4, 0)],
+           (2, 2): [(1, 0), (0, 1), (1, 1)],
+           (3, 2): [(1, 0), (0, 1), (1, 1), (2, 0)]}
+
+# ---- Matrices: rows of blocks, a block is a coefficient and a beam; `block_phases` puts the factor 1/sqrt(v P) ----------
+
+ONE = Beam(one, 0, 0)
+
+TABLE_1 = {1: [[[(1, ONE)], [(x, ONE)]] for x in (1, 1j, -1, -1j)],
+           2: [[[(1, ONE), (1, ONE)], [(x, ONE), (-x, ONE)]] for x in (1, 1j)]}
+
+
+def W1(b, f):
+    return [[(1, b)],
+            [(f, b)]]
+
+
+def W2(b, b1, f):
+    return [[(1, b), (1, b1)],
+            [(f, b), (-f, b1)]]
+
+
+def W3(b, b1, f):
+    return [[(1, b), (1, b1), (1, b)],
+            [(f, b), (f, b1), (-f, b)]]
+
+
+def W4(b, b1, f):
+    return [[(1, b), (1, b1), (1, b), (1, b1)],
+            [(f, b), (f, b1), (-f, b), (-f, b1)]]
+
+
+def W3_half_length(h, t, f):
+    return [[(1, h), (1, h), (1, h)],
+            [(t, h), (-t, h), (t, h)],
+            [(f, h), (f, h), (-f, h)],
+            [(f * t, h), (-f * t, h), (-f * t, h)]]
+
+
+def W4_half_length(h, t, f):
+    return [[(1, h), (1, h), (1, h), (1, h)],
+            [(t, h), (-t, h), (t, h), (-t, h)],
+            [(f, h), (f, h), (-f, h), (-f, h)],
+            [(f * t, h), (-f * t, h), (-f * t, h), (f * t, h)]]
+
+
+def W5(b, b1, b2, f):
+    return [[(1, b), (1, b), (1, b1), (1, b1), (1, b2)],
+            [(f, b), (-f, b), (1, b1), (-1, b1), (1, b2)]]
+
+
+def W6(b, b1, b2, f):
+    return [[(1, b), (1, b), (1, b1), (1, b1), (1, b2), (1, b2)],
+            [(f, b), (-f, b), (f, b1), (-f, b1), (1, b2), (-1, b2)]]
+
+
+def W7(b, b1, b2, b3, f):
+    """From 01: legible in none of the sources."""
+    return [[(1, b), (1, b), (1, b1), (1, b2), (1, b2), (1, b3), (1, b3)],
+            [(f, b), (-f, b), (f, b1), (1, b2), (-1, b2), (1, b3), (-1, b3)]]
+
+
+def W8(b, b1, b2, b3, f):
+    return [[(1, b), (1, b), (1, b1), (1, b1), (1, b2), (1, b2), (1, b3), (1, b3)],
+            [(f, b), (-f, b), (f, b1), (-f, b1), (1, b2), (-1, b2), (1, b3), (-1, b3)]]
+
+
+# ---- Indices (Tables 5.2.2.2.1-5 to -12) -------------------------------------------------------------------------------
+
+Report = collections.namedtuple('Report', 'N1 N2 mode v i11 i12 i13 i2')
+
+# Mode 2: what is added to (2 i11, 2 i12) in each quarter of i2's range.
+MODE_2_STEPS = {'N2 > 1': [(0, 0), (1, 0), (0, 1), (1, 1)],
+                'N2 = 1': [(0, 0), (1, 0), (2, 0), (3, 0)]}
+
+
+def matrix(report):
+    """The matrix W of a report in range, without its factor."""
+    N1, N2, mode, v, i11, i12, i13, i2 = report
+    s = SETTINGS[N1, N2]
+    if s.P == 2:
+        return TABLE_1[v][i2]
+    if v in (3, 4) and s.P >= 16:
+        return (W3_half_length if v == 3 else W4_half_length)(Beam(v_tilde, i11, i12), theta(i13), phi(i2))
+    l, m, n = i11, i12, i2
+    if mode == 2 and v <= 2:
+        quarter, n = divmod(i2, 4 if v == 1 else 2)
+        step_l, step_m = MODE_2_STEPS['N2 > 1' if N2 > 1 else 'N2 = 1'][quarter]
+        l, m = 2 * i11 + step_l, 2 * i12 + step_m
+
+    def beam(times_O1, times_O2):
+        return Beam(v_beam, l + times_O1 * s.O1, m + times_O2 * s.O2)
+
+    b, f = beam(0, 0), phi(n)
+    if v == 1:
+        return W1(b, f)
+    if v == 2:
+        # Mode 2: l' = l + k1 and m' = m + k2 with mode 2's l and m, from 01.
+        return W2(b, beam(*table_3(N1, N2)[i13]), f)
+    if v in (3, 4):
+        return (W3 if v == 3 else W4)(b, beam(*TABLE_4[N1, N2][i13]), f)
+    if v in (5, 6):
+        # N2 > 1: l, l', l'' and m, m', m'' as Table -10 has them in 003; m' of 5 layers from 01.
+        others = [beam(1, 0), beam(1, 1)] if N2 > 1 else [beam(1, 0), beam(2, 0)]
+        return (W5 if v == 5 else W6)(b, *others, f)
+    others = [beam(1, 0), beam(0, 1), beam(1, 1)] if N2 > 1 else [beam(1, 0), beam(2, 0), beam(3, 0)]
+    return (W7 if v == 7 else W8)(b, *others, f)
+
+
+@functools.lru_cache(maxsize=None)
+def vector(s, beam):
+    return beam.vector(s, beam.l, beam.m)
+
+
+@functools.lru_cache(maxsize=None)
+def block_phases(s, v, coefficient, beam):
+    """The phases of one block of W, each read off its complex entry."""
+    size = 1 / math.sqrt(v * s.P)
+    phases = []
+    for x in vector(s, beam):
+        w = size * coefficient * x
+        e = round(cmath.phase(w) * TURN / (2 * cmath.pi)) % TURN
+        if abs(w - size * cmath.exp(2j * cmath.pi * e / TURN)) > 1e-9:
+            raise ArithmeticError(f'{w} of {s}, v={v}, {coefficient}, {beam} is not a whole phase')
+        phases.append(e)
+    return bytes(phases)
+
+
+def phases_of(s, v, rows):
+    """Layer after layer, each from the first port to the last."""
+    return b''.join([block_phases(s, v, *block) for column in zip(*rows) for block in column])
+
+
+def bits_of(s, v, i2, rows):
+    """The bits of the beam mask that W reads (01, Masks)."""
+    if s.P == 2:
+        return (i2,) if v == 1 else (4 + i2,)
+    rows_of_mask = {((2 if beam.vector is v_tilde else 1) * beam.l % (s.N1 * s.O1), beam.m % (s.N2 * s.O2))
+                    for row in rows for _, beam in row}
+    return tuple(sorted(s.N2 * s.O2 * l + m for l, m in rows_of_mask))
+
+
+@functools.lru_cache(maxsize=None)
+def precoder(report):
+    """The phases of a report in range, and the mask bits it reads."""
+    s, rows = SETTINGS[report.N1, report.N2], matrix(report)
+    return phases_of(s, report.v, rows), bits_of(s, report.v, report.i2, rows)
+
+
+# ---- Ranges, masks and refusals (01) -----------------------------------------------------------------------------------
+
+@functools.lru_cache(maxsize=None)
+def values(s, mode, v):
+    """How many values i11, i12, i13 and i2 have."""
+    if s.P == 2:
+        return 1, 1, 1, {1: 4, 2: 2}[v]
+    i11, i12, i13, i2 = s.N1 * s.O1, s.N2 * s.O2, 1, 4 if v == 1 else 2
+    if v == 2:
+        i13 = len(table_3(s.N1, s.N2))
+    if v in (3, 4):
+        i13 = len(TABLE_4[s.N1, s.N2]) if s.P < 16 else 4
+    if mode == 2 and v <= 2:
+        i11, i12, i2 = i11 // 2, i12 // 2 if s.N2 > 1 else 1, 4 * i2
+    if v in (3, 4) and s.P >= 16:
+        i11 = i11 // 2
+    if v in (7, 8) and (s.N1, s.N2) == (4, 1):
+        i11 = i11 // 2
+    if v in (7, 8) and s.N1 > 2 and s.N2 == 2:
+        i12 = i12 // 2
+    return i11, i12, i13, i2
+
+
+def mask_bytes(s):
+    return 1 if s.P == 2 else s.N1 * s.O1 * s.N2 * s.O2 // 8
+
+
+def mask_of(bits, length):
+    """The mask in which exactly these bits are ones: bit k is bit k mod 8 of byte k / 8."""
+    return sum(1 << k for k in bits).to_bytes(length, 'little')
+
+
+def ones(s):
+    return b'\xff' * mask_bytes(s)
+
+
+def ones_but(s, bits):
+    return (int.from_bytes(ones(s), 'little') & ~sum(1 << k for k in set(bits))).to_bytes(mask_bytes(s), 'little')
+
+
+def refusal(report, ranks, mask, length):
+    """The first line of 01's refusal table that applies, or 0."""
+    N1, N2, mode, v, i11, i12, i13, i2 = report
+    if (N1, N2) not in SETTINGS:
+        return 1
+    s = SETTINGS[N1, N2]
+    if mode not in MODES:
+        return 2
+    if len(mask) != mask_bytes(s):
+        return 3
+    if v == 0 or v > 8 or v > s.P:
+        return 4
+    if not ranks >> (v - 1) & 1:
+        return 5
+    for number, index, count in zip((6, 7, 8, 9), (i11, i12, i13, i2), values(s, mode, v)):
+        if index >= count:
+            return number
+    if not all(mask[k // 8] >> (k % 8) & 1 for k in precoder(report)[1]):
+        return 10
+    if length < v * s.P:
+        return 11
+    return 0
+
+
+def reports_in_range(s, mode, v):
+    for indices in itertools.product(*map(range, values(s, mode, v))):
+        yield Report(s.N1, s.N2, mode, v, *indices)
+
+
+def corner_reports(s, mode, v):
+    """Two reports in range: all indices 0, and all at their last values."""
+    return [Report(s.N1, s.N2, mode, v, 0, 0, 0, 0),
+            Report(s.N1, s.N2, mode, v, *(count - 1 for count in values(s, mode, v)))]
+
+
+# Reports in range for v = 1, 2, ..; in mode 2 the numbers for v = 1 and 2 that stand after them, if any.
+REPORTS_IN_RANGE = {
+    (1, 1): ([4, 2], []),
+    (2, 1): ([32, 32, 16, 16], [64, 64]),
+    (2, 2): ([256, 512, 384, 384, 128, 128, 128, 128], []),
+    (4, 1): ([64, 128, 96, 96, 32, 32, 16, 16], [128, 256]),
+    (3, 2): ([384, 768, 768, 768, 192, 192, 96, 96], []),
+    (6, 1): ([96, 192, 192, 192, 48, 48, 48, 48], [192, 384]),
+    (4, 2): ([512, 1024, 512, 512, 256, 256, 128, 128], []),
+    (8, 1): ([128, 256, 128, 128, 64, 64, 64, 64], [256, 512]),
+    (4, 3): ([768, 1536, 768, 768, 384, 384, 384, 384], []),
+    (6, 2): ([768, 1536, 768, 768, 384, 384, 192, 192], []),
+    (12, 1): ([192, 384, 192, 192, 96, 96, 96, 96], [384, 768]),
+    (4, 4): ([1024, 2048, 1024, 1024, 512, 512, 512, 512], []),
+    (8, 2): ([1024, 2048, 1024, 1024, 512, 512, 256, 256], []),
+    (16, 1): ([256, 512, 256, 256, 128, 128, 128, 128], [512, 1024])}
+ALL_REPORTS, ALL_PHASES = 78_892, 6_387_360
+
+# ---- Requests and answers, as batch.c reads and writes them ------------------------------------------------------------
+
+HEAD, TAIL, RECORD = struct.Struct('<8IBH'), struct.Struct('<HB'), struct.Struct('<4I')
+LENT = [bytes((fill + 37 * i) % 256 for i in range(256)) for fill in range(256)]
+MOST_LINES = 20
+
+
+def as_lent(fill, length):
+    return (LENT[fill] * (length // 256 + 1))[:length]
+
+
+def decode(data, at):
+    """The request that starts at a place: report, rank mask, beam mask, buffer length, first fill value."""
+    *report, ranks, mask_length = HEAD.unpack_from(data, at)
+    at += HEAD.size
+    return (Report(*report), ranks, bytes(data[at:at + mask_length]), *TAIL.unpack_from(data, at + mask_length))
+
+
+def show_request(report, ranks, mask, length, fill):
+    numbers = ' '.join(f'{name}={x}' for name, x in zip(report._fields, report))
+    shown = mask[:32].hex() + ('..' if len(mask) > 32 else '')
+    return f'{numbers}, rank mask {ranks:02x}, beam mask {shown} ({len(mask)} bytes), buffer {length} from {fill}'
+
+
+def show_difference(answer, came):
+    if len(came) < len(answer):
+        return 'no answer came'
+    text = 'expected record {} {} {} {}, came {} {} {} {}'.format(*RECORD.unpack_from(answer), *RECORD.unpack_from(came))
+    if came[RECORD.size] != 1:
+        text += '; the mask or a guard changed'
+    entries = list(enumerate(zip(answer[RECORD.size + 1:], came[RECORD.size + 1:])))
+    different = [(place, x, y) for place, (x, y) in entries if x != y]
+    if different:
+        text += '; expected entry {} {}, came {}'.format(*different[0]) + f' ({len(different)} entries differ)'
+    return text
+
+
+class Tests:
+    """The tests by name, the requests of each and the answers they must have."""
+
+    def __init__(self):
+        self.names, self.failures = [], {}
+        self.requests, self.answers = bytearray(), bytearray()
+        self.test_of, self.request_at, self.answer_at = array.array('L'), array.array('L'), array.array('L')
+        self.expected = collections.Counter()
+        self.test = None
+
+    def begin(self, name):
+        """Starts a test: what is added or checked from here on belongs to it."""
+        self.names.append(name)
+        self.test = len(self.names) - 1
+        return self.test
+
+    def check(self, fact, text):
+        if not fact:
+            self.fail(self.test, text)
+
+    def fail(self, test, text):
+        first, count = self.failures.get(test, (text, 0))
+        self.failures[test] = first, count + 1
+
+    def add(self, report, ranks, mask, length, fill, number, test=None):
+        """A request, and the refusal number it is built for (0 for none), which must be the model's too."""
+        test = self.test if test is None else test
+        if refusal(report, ranks, mask, length) != number:
+            self.fail(test, f'{show_request(report, ranks, mask, length, fill)}: built for {number}, '
+                            f'{refusal(report, ranks, mask, length)} by the model')
+        self.test_of.append(test)
+        self.request_at.append(len(self.requests))
+        self.answer_at.append(len(self.answers))
+        self.expected[number] += 1
+        self.requests += HEAD.pack(*report, ranks, len(mask)) + mask + TAIL.pack(length, fill)
+        if number:
+            self.answers += RECORD.pack(number, 0, 0, 0) + b'\1' + as_lent(fill, length)
+        else:
+            phases, ports = precoder(report)[0], SETTINGS[report.N1, report.N2].P
+            self.answers += RECORD.pack(0, ports, report.v, report.v * ports) + b'\1' + phases
+            self.answers += as_lent(fill, length)[len(phases):]
+
+    def run(self, command):
+        """Sends all requests to one process and compares all answers."""
+        test = self.begin('the harness answers every request and ends')
+        try:
+            done = subprocess.run(command, input=self.requests, stdout=subprocess.PIPE, timeout=900)
+            came, status = done.stdout, done.returncode
+        except subprocess.TimeoutExpired as late:
+            came, status = late.stdout or b'', 'none after 900 seconds'
+        except OSError as error:
+            came, status = b'', error
+        if status != 0 or len(came) != len(self.answers):
+            self.fail(test, f'exit status {status}, {len(came)} bytes of {len(self.answers)}')
+        if came != self.answers:
+            ends = self.answer_at[1:] + array.array('L', [len(self.answers)])
+            for k, (start, end) in enumerate(zip(self.answer_at, ends)):
+                if came[start:end] != self.answers[start:end]:
+                    self.differs(k, came[start:end], bytes(self.answers[start:end]))
+
+    def differs(self, k, came, answer):
+        if self.test_of[k] in self.failures:
+            self.fail(self.test_of[k], None)
+            return
+        request = show_request(*decode(self.requests, self.request_at[k]))
+        self.fail(self.test_of[k], f'{request}: {show_difference(answer, came)}')
+
+    def report(self):
+        for test, (first, count) in list(self.failures.items())[:MOST_LINES]:
+            more = f' ({count} such)' if count > 1 else ''
+            print(f'FAIL {self.names[test]}{more}: {first}')
+        refused = ', '.join(f'{number}: {self.expected[number]}' for number in range(1, 12))
+        print(f'{len(self.test_of)} requests, {self.expected[0]} to be accepted, by refusal {refused}')
+        passed = len(self.names) - len(self.failures)
+        print(f'{passed} passed, {len(self.failures)} failed')
+        return 0 if passed and not self.failures else 1
+
+
+def groups():
+    for s in SETTINGS.values():
+        for mode in MODES:
+            for v in ranks_of(s):
+                yield s, mode, v
+
+
+def name_of(s):
+    return f'({s.N1},{s.N2})'
+
+
+# ---- The worked cases of 01, held against the model --------------------------------------------------------------------
+
+def worked_cases(tests):
+    def number(report, mask=None, length=1000):
+        s = SETTINGS[report[:2]]
+        return refusal(Report(*report), 255, ones(s) if mask is None else mask, length)
+
+    def layer(k, report):
+        ports = SETTINGS[report[:2]].P
+        return list(precoder(Report(*report))[0][(k - 1) * ports:k * ports])
+
+    def case(k, *facts):
+        tests.begin(f'worked case {k}, by the model')
+        tests.check(all(facts), f'its facts hold: {facts}')
+
+    def both(fact):
+        """Cases 4 to 9 name no mode; they hold in both."""
+        return fact(1) and fact(2)
+
+    one_layer, two_layers, beam_9 = (2, 1, 1, 1, 1, 0, 0, 1), (2, 1, 1, 2, 7, 0, 1, 0), (2, 1, 2, 1, 3, 0, 0, 15)
+    case(1, number(one_layer) == 0, layer(1, one_layer) == [0, 24, 48, 72])
+    case(2, number(two_layers) == 0,
+         layer(1, two_layers) == [0, 168, 0, 168], layer(2, two_layers) == [0, 72, 96, 168])
+    case(3, number(beam_9) == 0, layer(1, beam_9) == [0, 24, 144, 168], number(beam_9, mask=b'\xfd') == 10)
+    thirds = layer(1, (3, 2, 1, 3, 0, 0, 3, 0)), layer(2, (3, 2, 1, 3, 0, 0, 3, 0))
+    case(4, both(lambda mode: layer(2, (3, 2, mode, 3, 0, 0, 3, 0)) == [0, 0, 128, 128, 64, 64] * 2),
+         collections.Counter((y - x) % TURN for x, y in zip(*thirds)) == {0: 4, 64: 4, 128: 4})
+    case(5, both(lambda mode: layer(1, (8, 1, mode, 3, 1, 0, 1, 1)) ==
+                 [0, 12, 24, 36, 24, 36, 48, 60, 48, 60, 72, 84, 72, 84, 96, 108]))
+    case(6, both(lambda mode: layer(1, (1, 1, mode, 2, 0, 0, 0, 1)) == [0, 48]),
+         both(lambda mode: layer(2, (1, 1, mode, 2, 0, 0, 0, 1)) == [0, 144]),
+         both(lambda mode: number((1, 1, mode, 2, 0, 0, 0, 2)) == 9))
+    case(7, both(lambda mode: number((4, 1, mode, 7, 7, 0, 0, 0)) == 0),
+         both(lambda mode: number((4, 1, mode, 7, 8, 0, 0, 0)) == 6))
+    case(8, both(lambda mode: number((3, 2, mode, 8, 0, 3, 0, 0)) == 0),
+         both(lambda mode: number((3, 2, mode, 8, 0, 4, 0, 0)) == 7))
+    case(9, both(lambda mode: number((2, 1, mode, 5, 0, 0, 0, 0)) == 4),
+         both(lambda mode: number((2, 1, mode, 1, 0, 1, 0, 0)) == 7),
+         both(lambda mode: number((2, 1, mode, 1, 0, 0, 1, 0)) == 8),
+         both(lambda mode: number((2, 1, mode, 2, 0, 0, 2, 0)) == 8))
+    case(10, number(one_layer, length=4) == 0, number(one_layer, length=3) == 11)
+
+
+# ---- Every report in range ---------------------------------------------------------------------------------------------
+
+def every_report(tests):
+    all_reports = all_phases = 0
+    for s, mode, v in groups():
+        tests.begin(f'phases of {name_of(s)} mode {mode} v={v}')
+        length, mask, n = v * s.P, ones(s), 0
+        for n, report in enumerate(reports_in_range(s, mode, v), 1):
+            # The entry past the answer is lent above every phase, and no entry is lent alike in the two buffers: neither
+            # a phase too many nor a phase too few goes unseen.
+            fill = (192 + n % 64 - 37 * length) % 256
+            tests.add(report, 255, mask, length + 1, fill, 0)
+            tests.add(report, 255, mask, length, (fill + 1 + n % 255) % 256, 0)
+        in_mode_1, in_mode_2 = REPORTS_IN_RANGE[s.N1, s.N2]
+        listed = (in_mode_2 if mode == 2 and v <= len(in_mode_2) else in_mode_1)[v - 1]
+        tests.check(n == listed, f'{n} reports in range, {listed} are listed')
+        all_reports, all_phases = all_reports + n, all_phases + n * length
+    tests.begin('totals of reports and phases')
+    tests.check((all_reports, all_phases) == (ALL_REPORTS, ALL_PHASES), f'{all_reports} reports, {all_phases} phases')
+    print(f'{all_reports} reports in range, {all_phases} phases')
+
+
+# ---- Masks -------------------------------------------------------------------------------------------------------------
+
+def beam_masks(tests):
+    bits_read = 0
+    for s, mode, v in groups():
+        tests.begin(f'beam masks of {name_of(s)} mode {mode} v={v}')
+        length = mask_bytes(s)
+        all_but = [ones_but(s, [k]) for k in range(8 * length)]
+        for n, report in enumerate(reports_in_range(s, mode, v)):
+            bits = precoder(report)[1]
+            tests.add(report, 255, mask_of(bits, length), v * s.P, n % 256, 0)
+            for k in bits:
+                tests.add(report, 255, all_but[k], v * s.P, (n + k) % 256, 10)
+            bits_read += len(bits)
+    print(f'{bits_read} mask bits read, each barred once')
+
+
+def rank_masks(tests):
+    for s in SETTINGS.values():
+        for v in ranks_of(s):
+            tests.begin(f'rank masks of {name_of(s)} v={v}')
+            for mode in MODES:
+                report = corner_reports(s, mode, v)[1]
+                for ranks in range(256):
+                    tests.add(report, ranks, ones(s), v * s.P, ranks, 0 if ranks >> (v - 1) & 1 else 5)
+
+
+# ---- Both sides of every bound -----------------------------------------------------------------------------------------
+
+def near(count):
+    """Numbers on both sides of a bound, and numbers that 8, 16, 24 or 31 bits, or a doubling, cut down to legal ones."""
+    last = count - 1
+    numbers = {0, last, count, count + 1, 2 * count - 1, 2 * count, 2 ** 32 - 1, 2 ** 32 - count, 2 ** 31 - 1}
+    for bits in (5, 6, 8, 15, 16, 24, 30, 31):
+        numbers |= {2 ** bits, 2 ** bits + last, 2 ** bits + last // 2, 2 ** bits - 1}
+    return sorted(numbers)
+
+
+def not_settings(tests):
+    def refused(N1, N2, lengths, fill):
+        for mode, v, length in itertools.product(MODES, (1, 4), lengths):
+            tests.add(Report(N1, N2, mode, v, 0, 0, 0, 0), 255, b'\xff' * length, 256, fill, 1)
+
+    tests.begin('pairs up to 33 x 33 that are not settings')
+    pairs = [pair for pair in itertools.product(range(34), repeat=2) if pair not in SETTINGS]
+    tests.check(len(pairs) == 34 * 34 - 14, f'{len(pairs)} pairs')
+    for N1, N2 in pairs:
+        # The second length is what the mask of such a setting would need, with O1 = 4 and O2 = 4 or 1.
+        refused(N1, N2, {1, 2 * N1 * N2 if N2 > 1 else (N1 + 1) // 2}, (N1 + 34 * N2) % 256)
+
+    tests.begin('pairs that become settings, or their ports, when cut down')
+    for s in SETTINGS.values():
+        for bits in (8, 16, 24, 31):
+            for N1, N2 in [(s.N1 + 2 ** bits, s.N2), (s.N1, s.N2 + 2 ** bits), (s.N1 + 2 ** bits, s.N2 + 2 ** bits)]:
+                refused(N1, N2, {mask_bytes(s)}, bits)
+        for N1, N2 in [(2 ** 32 - s.N1, 2 ** 32 - s.N2), (2 ** 32 - s.N1, s.N2), (s.N1, 2 ** 32 - s.N2)]:
+            refused(N1, N2, {mask_bytes(s)}, s.P)
+
+    tests.begin('pairs of 32-bit extremes')
+    extremes = [0, 1, 2, 4, 255, 256, 258, 65535, 65536, 65537, 2 ** 30, 2 ** 31 - 1, 2 ** 31, 2 ** 31 + 1,
+                2 ** 32 - 2, 2 ** 32 - 1]
+    for N1, N2 in itertools.product(extremes, repeat=2):
+        if (N1, N2) not in SETTINGS:
+            refused(N1, N2, {0, 1, 2, 8, 32}, (N1 + N2) % 256)
+
+
+def modes(tests):
+    for s in SETTINGS.values():
+        tests.begin(f'modes of {name_of(s)}')
+        for v in ranks_of(s):
+            for mode in sorted({1, *near(3)}):
+                report = corner_reports(s, 1, v)[0]._replace(mode=mode)
+                tests.add(report, 255, ones(s), v * s.P, mode % 256, 0 if mode in MODES else 2)
+
+
+def mask_lengths(tests):
+    for s in SETTINGS.values():
+        tests.begin(f'beam mask lengths of {name_of(s)}')
+        needed = mask_bytes(s)
+        lengths = {0, 1, needed - 1, needed, needed + 1, 2 * needed, 8 * needed, 256 + needed,
+                   31, 32, 33, 64, 255, 256, 65535}
+        for mode, v in itertools.product(MODES, ranks_of(s)):
+            for length in sorted(lengths if v == 1 else lengths - {65535}):
+                report = corner_reports(s, mode, v)[1]
+                tests.add(report, 255, b'\xff' * length, v * s.P, length % 256, 0 if length == needed else 3)
+
+
+def rank_bounds(tests):
+    for s in SETTINGS.values():
+        tests.begin(f'ranks of {name_of(s)}')
+        numbers = {*near(9), *range(12), s.P - 1, s.P, s.P + 1, 33, 40, 65, 257, 264, 256 + s.P, 65536 + s.P}
+        for mode, v in itertools.product(MODES, sorted(numbers)):
+            legal = v in ranks_of(s)
+            for ranks in (0, 255):
+                report = Report(s.N1, s.N2, mode, v, 0, 0, 0, 0)
+                tests.add(report, ranks, ones(s), 8 * s.P, v % 256, 4 if not legal else 0 if ranks else 5)
+
+
+def index_bounds(tests):
+    for s in SETTINGS.values():
+        for place, name in enumerate(('i11', 'i12', 'i13', 'i2')):
+            tests.begin(f'{name} of {name_of(s)}')
+            for mode, v in itertools.product(MODES, ranks_of(s)):
+                count = values(s, mode, v)[place]
+                for report, number in itertools.product(corner_reports(s, mode, v), near(count)):
+                    report = report._replace(**{name: number})
+                    tests.add(report, 255, ones(s), v * s.P, number % 256, 0 if number < count else 6 + place)
+
+
+def buffer_lengths(tests):
+    for s in SETTINGS.values():
+        tests.begin(f'buffer lengths of {name_of(s)}')
+        for mode, v in itertools.product(MODES, ranks_of(s)):
+            needed = v * s.P
+            lengths = {0, 1, s.P - 1, s.P, needed - s.P, needed - 1, needed, needed + 1, 2 * needed, 255, 256, 257,
+                       255 + needed, 256 + needed, 511 + needed}
+            for length in sorted(lengths | ({65535} if v == 1 else set())):
+                for report in corner_reports(s, mode, v):
+                    tests.add(report, 255, ones(s), length, (length + v) % 256, 0 if length >= needed else 11)
+
+
+# ---- The order of refusals ---------------------------------------------------------------------------------------------
+
+def with_faults(report, faults, variant):
+    """A request with these faults and no others, from a report in range; the variant picks the form of each fault."""
+    s = SETTINGS[report.N1, report.N2]
+    numbers, ranks, mask, length = report._asdict(), 255, ones(s), report.v * s.P
+
+    def form(number, *forms):
+        return forms[variant // number % len(forms)]
+
+    if 1 in faults:
+        numbers['N1'], numbers['N2'] = form(1, (s.N1 + 256, s.N2), (s.N1, s.N2 + 4), (s.N1, 0), (2 ** 31 + s.N1, s.N2))
+    if 2 in faults:
+        numbers['mode'] = form(2, 0, 3, 2 ** 32 - 1, 256 + report.mode)
+    if 4 in faults:
+        numbers['v'] = form(4, 0, 9, s.P + 1 if s.P < 8 else 2 ** 32 - 1, 256 + report.v)
+    if 5 in faults:
+        # A rank above P has a bit too; the other ranks out of range have none.
+        v = numbers['v'] if 1 <= numbers['v'] <= 8 else report.v
+        ranks = form(5, 0, 255 & ~(1 << (v - 1)))
+    for number, name, count in zip((6, 7, 8, 9), ('i11', 'i12', 'i13', 'i2'), values(s, report.mode, report.v)):
+        if number in faults:
+            legal = numbers[name]
+            # The first index out of range; without a mode or a rank, one that is so for all of them.
+            first = 64 if faults & {2, 4} else count
+            numbers[name] = form(number, first, 2 ** 32 - 1, 2 ** 31 + legal, 256 + legal)
+    if 10 in faults:
+        mask = form(10, bytes(len(mask)), ones_but(s, precoder(report)[1][-1:]))
+    if 3 in faults:
+        mask = form(3, mask[:-1], mask + b'\xff', b'', mask + mask)
+    if 11 in faults:
+        length = form(11, length - 1, 0)
+    return Report(**numbers), ranks, mask, length
+
+
+def orders(tests):
+    variants = itertools.count()
+
+    def add(report, faults):
+        variant = next(variants)
+        tests.add(*with_faults(report, faults, variant), variant % 256, min(faults))
+
+    pairs = list(itertools.combinations(range(1, 12), 2))
+    named = {pair: tests.begin('faults {} and {} together'.format(*pair)) for pair in pairs}
+    for s, mode, v in groups():
+        for report, pair in itertools.product(corner_reports(s, mode, v), pairs):
+            tests.test = named[pair]
+            add(report, set(pair))
+    for s in SETTINGS.values():
+        tests.begin(f'all sets of two or more faults of {name_of(s)}')
+        reports = itertools.cycle([report for mode in MODES for v in ranks_of(s) for report in corner_reports(s, mode, v)])
+        for some in range(2, 12):
+            for faults in itertools.combinations(range(1, 12), some):
+                add(next(reports), set(faults))
+
+
+# ---- Random requests ---------------------------------------------------------------------------------------------------
+
+RANDOM_REQUESTS, SEED, FEWEST = 240_000, 38_214, 1_000
+
+
+def draw_number(draw, count):
+    """A legal number mostly, else one at a bound or far from it."""
+    x = draw.random()
+    if x < 0.84:
+        return int(draw.random() * count)
+    if x < 0.94:
+        return count - 1
+    if x < 0.97:
+        return count + int(draw.random() * 3)
+    return draw.choice(near(count))
+
+
+def draw_mask(draw, report, s):
+    """A beam mask: all ones, dense, sparse, or just what the report reads and some more."""
+    length, x = mask_bytes(s), draw.random()
+    if x > 0.96:
+        length = draw.choice((0, length - 1, length + 1, 2 * length, int(draw.random() * 40)))
+    bits = 8 * length
+    every = (1 << bits) - 1
+    x = draw.random()
+    if x < 0.40 or bits == 0:
+        mask = every
+    elif x < 0.65:
+        mask = every
+        for _ in range(1 + int(draw.random() * 4)):
+            mask &= ~(1 << int(draw.random() * bits))
+    elif x < 0.80:
+        mask = draw.getrandbits(bits) | draw.getrandbits(bits) | draw.getrandbits(bits)
+    else:
+        mask = draw.getrandbits(bits) & draw.getrandbits(bits) if x < 0.98 else 0
+        if x < 0.94 and not refusal(report, 255, ones(s), 1 << 16):
+            mask |= sum(1 << k for k in precoder(report)[1]) & every
+    return mask.to_bytes(length, 'little')
+
+
+def draw_request(draw):
+    s = draw.choice(list(SETTINGS.values()))
+    N1, N2, mode = s.N1, s.N2, 1 + int(draw.random() * 2)
+    if draw.random() < 0.04:
+        N1, N2 = draw.choice(((int(draw.random() * 34), int(draw.random() * 34)), (N2, N1),
+                              (draw.choice(near(N1 + 1)), N2), (N1, draw.choice(near(N2 + 1)))))
+    legal_mode = mode
+    if draw.random() < 0.03:
+        mode = draw.choice(near(3))
+    v = legal_v = 1 + int(draw.random() * len(ranks_of(s)))
+    if draw.random() < 0.04:
+        v = draw.choice((0, 9, s.P + 1, 1 + int(draw.random() * 8), 256 + v, draw.choice(near(9))))
+    indices = [draw_number(draw, count) for count in values(s, legal_mode, legal_v)]
+    report = Report(N1, N2, mode, v, *indices)
+    ranks = draw.getrandbits(8)
+    if draw.random() < 0.94:
+        ranks |= 1 << (legal_v - 1)
+    length, x = legal_v * s.P, draw.random()
+    if x < 0.30:
+        length += int(draw.random() * 40)
+    elif x < 0.42:
+        length -= 1 + int(draw.random() * min(4, length))
+    elif x < 0.50:
+        length = int(draw.random() * 600)
+    return report, ranks, draw_mask(draw, report, s), length
+
+
+def random_requests(tests):
+    draw = random.Random(SEED)
+    named = [tests.begin(f'random requests to be refused with {number}' if number else 'random requests to be accepted')
+             for number in range(12)]
+    drawn = collections.Counter()
+    for _ in range(RANDOM_REQUESTS):
+        request = draw_request(draw)
+        number = refusal(*request)
+        drawn[number] += 1
+        tests.add(*request, draw.getrandbits(8), number, named[number])
+    for number, test in enumerate(named):
+        tests.test = test
+        tests.check(drawn[number] >= FEWEST, f'only {drawn[number]} drawn')
+    print(f'{RANDOM_REQUESTS} random requests, by refusal (0 for none) '
+          + ', '.join(f'{number}: {drawn[number]}' for number in range(12)))
+
+
+def main(command):
+    if not command:
+        print('usage: precoder.py COMMAND..', file=sys.stderr)
+        return 2
+    tests = Tests()
+    for part in (worked_cases, every_report, beam_masks, rank_masks, not_settings, modes, mask_lengths, rank_bounds,
+                 index_bounds, buffer_lengths, orders, random_requests):
+        part(tests)
+    tests.run(command)
+    return tests.report()
+
+
+if __name__ == '__main__':
+    sys.exit(main(sys.argv[1:]))
