@@ -1,23 +1,24 @@
 -- The bits that a report reads: where they lie, and how they are read one after the other. Assumes nothing.
-use mathlib.Core.Path.{_≡_, refl, sym, ap, _∙_}
+use mathlib.Core.Path.{_≡_, refl, sym, ap, ap₂, _∙_}
 use mathlib.Core.Logic.{inl, inr}
 use mathlib.Core.Bool.{Bool, true, false, cond, _||_}
 use mathlib.Core.List.{List, [], _∷_, _++_, map}
-use Prim.Native.Nat.{ℕ, zero, suc, _+_, _*_, _%_, _<_, _≤_}
+use Prim.Native.Nat.{ℕ, zero, suc, _+_, _*_, _/_, _%_, _<_, _≤_}
 use native.Mathlib.Nat.{not-suc-le-zero, le-of-suc-le-suc, eq-or-lt-of-le, mod-lt}
 use native.Mathlib.Numerals.{add-one}
 use native.Mathlib.Omega.{arith}
 use lib.Arith.{digits-lt}
 use lib.Dec.{eqb, leb, ltb, lit≤}
-use lib.ListN.{length, getD, length-map}
-use borrow.Author.Tests.{eq-eqb, ne-eqb}
+use lib.ListN.{length, getD, replicate, length-map, List·getD-map}
+use borrow.Author.Tests.{eq-eqb, ne-eqb, eqb-false}
 use Rattle.codebook.specs.declared.Report.{Report}
 use Rattle.codebook.specs.declared.Beam.{Beam}
 use Rattle.codebook.specs.Lists.{some}
 use Rattle.codebook.specs.Settings.{isSetting, across, down, maskBytes}
 use Rattle.codebook.specs.Beams.{beam, halfLength, base, kRows, offsets, moved, beams}
-use Rattle.codebook.specs.Masks.{bit, beamBit, bitsRead, isZero}
+use Rattle.codebook.specs.Masks.{bitOf, bit, beamBit, bitsRead, isZero, barred}
 use Rattle.codebook.specs.Choice.{lOf, mOf, accepted, bitsAt}
+use Rattle.codebook.proofs.Booleans.{or-false}
 use Rattle.codebook.proofs.Known.{known, mask-bits}
 
 pub some-append : {A : Type 0} (test : A → Bool) (xs ys : List A) → some test (xs ++ ys) ≡ (some test xs || some test ys)
@@ -36,6 +37,26 @@ is-zero mask k e = eq-eqb _ _ e
 pub is-one : (mask : List ℕ) (k : ℕ) → (bit mask k ≡ 0 → ⊥) → isZero mask k ≡ false
 unfolding isZero
 is-one mask k h = ne-eqb _ _ h
+
+-- where some element passing is excluded, none passes
+pub some-false : {A : Type 0} (test : A → Bool) (xs : List A) (x : A) (i : ℕ) → some test xs ≡ false → i < length xs
+    → test (getD xs i x) ≡ false
+unfolding some
+some-false test [] x i e h = absurd (not-suc-le-zero h)
+some-false test (y ∷ xs) x zero e h = or-false (test y) (some test xs) e .0
+some-false test (y ∷ xs) x (suc i) e h = some-false test xs x i (or-false (test y) (some test xs) e .1) (le-of-suc-le-suc h)
+
+pub all-ones : {A : Type 0} (f : A → ℕ) (xs : List A) (x : A) → ((i : ℕ) → i < length xs → f (getD xs i x) ≡ 1)
+    → map f xs ≡ replicate (length xs) 1
+all-ones f [] x h = refl
+all-ones f (y ∷ xs) x h = ap₂ {C = List ℕ} (λ y ys. y ∷ ys) (h 0 (omega arith)) (all-ones f xs x (λ i k. h (suc i) (omega arith)))
+
+-- a bit that is not zero is one
+pub bit-one : (mask : List ℕ) (k : ℕ) → isZero mask k ≡ false → bit mask k ≡ 1
+unfolding isZero bit
+bit-one mask k e =
+    let z = eqb-false (bitOf (getD mask (k / 8) 0) (k % 8)) 0 e in
+    omega arith
 
 module _ (mask : List ℕ) (width : ℕ) (l m : List ℕ) where
   -- the bit of beam i
@@ -114,22 +135,36 @@ four-at g xs (suc (suc zero)) h = refl
 four-at g xs (suc (suc (suc zero))) h = refl
 four-at g xs (suc (suc (suc (suc i)))) h = absurd (omega arith)
 
-pub offsets-few : (r : Report) → length (offsets r) ≤ 4
+-- how many beams there are, by rank; `single` where there is no B′
+abbrev pub counted : ℕ → Bool → ℕ
+counted v single = cond (leb 7 v) 4 (cond (leb 5 v) 3 (cond single 1 2))
+
+pub length-offsets : (r : Report) → length (offsets r) ≡ counted (r .v) (eqb (r .v) 1 || halfLength r)
 unfolding offsets
-offsets-few r = go (leb 7 (r .v)) (leb 5 (r .v)) (ltb 1 (r .n2)) (eqb (r .v) 1 || halfLength r)
+length-offsets r = go (leb 7 (r .v)) (leb 5 (r .v)) (eqb (r .v) 1 || halfLength r) (ltb 1 (r .n2))
   where
-    go : (a b c d : Bool)
+    go : (a b d c : Bool)
         → length (cond a
-        (cond c (beam 0 0 ∷ beam 1 0 ∷ beam 0 1 ∷ beam 1 1 ∷ []) (beam 0 0 ∷ beam 1 0 ∷ beam 2 0 ∷ beam 3 0 ∷ []))
-        (cond b
-        (cond c (beam 0 0 ∷ beam 1 0 ∷ beam 1 1 ∷ []) (beam 0 0 ∷ beam 1 0 ∷ beam 2 0 ∷ []))
-        (cond d (beam 0 0 ∷ []) (beam 0 0 ∷ getD (kRows r) (r .i13) (beam 0 0) ∷ [])))) ≤ 4
-    go true b true d = lit≤ tt
-    go true b false d = lit≤ tt
-    go false true true d = lit≤ tt
-    go false true false d = lit≤ tt
-    go false false c true = lit≤ tt
-    go false false c false = lit≤ tt
+            (cond c (beam 0 0 ∷ beam 1 0 ∷ beam 0 1 ∷ beam 1 1 ∷ []) (beam 0 0 ∷ beam 1 0 ∷ beam 2 0 ∷ beam 3 0 ∷ []))
+            (cond b
+                (cond c (beam 0 0 ∷ beam 1 0 ∷ beam 1 1 ∷ []) (beam 0 0 ∷ beam 1 0 ∷ beam 2 0 ∷ []))
+                (cond d (beam 0 0 ∷ []) (beam 0 0 ∷ getD (kRows r) (r .i13) (beam 0 0) ∷ []))))
+        ≡ cond a 4 (cond b 3 (cond d 1 2))
+    go true b d true = refl
+    go true b d false = refl
+    go false true d true = refl
+    go false true d false = refl
+    go false false true c = refl
+    go false false false c = refl
+
+pub offsets-few : (r : Report) → length (offsets r) ≤ 4
+offsets-few r = rw (length-offsets r) (go (leb 7 (r .v)) (leb 5 (r .v)) (eqb (r .v) 1 || halfLength r))
+  where
+    go : (a b d : Bool) → cond a 4 (cond b 3 (cond d 1 2)) ≤ 4
+    go true b d = lit≤ tt
+    go false true d = lit≤ tt
+    go false false true = lit≤ tt
+    go false false false = lit≤ tt
 
 pub length-beams : (r : Report) → length (beams r) ≡ length (offsets r)
 unfolding beams
@@ -161,3 +196,21 @@ module _ (r : Report) where
   accepted-bits more =
       rw (accepted-l, accepted-m, sym (length-beams r), ne-eqb _ _ more)
       (bits-of-beams (r .n2) (beams r) (rw (length-beams r) (offsets-few r)))
+
+-- ---- the beams of a report that is not barred
+
+module _ (r : Report) (mask : List ℕ) (clear : barred mask r ≡ false) where
+  -- every bit that it reads is one
+  pub bits-one : (i : ℕ) → i < length (bitsRead r) → bit mask (getD (bitsRead r) i 0) ≡ 1
+  unfolding barred
+  bits-one i h = bit-one mask (getD (bitsRead r) i 0) (some-false (isZero mask) (bitsRead r) 0 i clear h)
+
+  -- and above two ports that of every beam
+  pub beams-one : (r .n1 ≡ 1 → ⊥) → (i : ℕ) → i < length (beams r) → bit mask (beamBit (r .n2) (getD (beams r) i none)) ≡ 1
+  unfolding barred bitsRead
+  beams-one more i h =
+      let e : some (isZero mask) (map (beamBit (r .n2)) (beams r)) ≡ false = rw (ne-eqb (r .n1) 1 more) at clear in
+      bit-one mask _
+      (ap (isZero mask) (sym (List·getD-map (beamBit (r .n2)) (beams r) i none))
+      ∙ some-false (isZero mask) (map (beamBit (r .n2)) (beams r)) (beamBit (r .n2) none) i e
+        (rw (length-map (beams r) (beamBit (r .n2))) h))

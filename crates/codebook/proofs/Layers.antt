@@ -5,7 +5,7 @@ use mathlib.Core.List.{List, [], _∷_, _++_, map, append-nil, append-assoc}
 use Prim.Native.Nat.{ℕ, zero, suc, _+_, _-_, _*_, _/_, _%_, _<_, _≤_}
 use native.Mathlib.Nat.{zero-mul, not-suc-le-zero, le-of-suc-le-suc}
 use native.Mathlib.Omega.{arith}
-use lib.Dec.{T, eqb, leb, eqb→eq, leb→le}
+use lib.Dec.{T, eqb, leb, ltb, eqb→eq, leb→le, ltb→lt, lit≤}
 use lib.ListN.{length, getD, take, length-append, length-map, List·getD-map}
 use lib.Seq.{length-take-le, getD-take}
 use Rattle.turn.specs.Phase.{phase}
@@ -16,9 +16,10 @@ use Rattle.codebook.specs.declared.Report.{Report}
 use Rattle.codebook.specs.Lists.{join}
 use Rattle.codebook.specs.Settings.{settings, isSetting, ports}
 use Rattle.codebook.specs.Ranks.{Bracket, _⨾_, ranks, quarters}
-use Rattle.codebook.specs.Beams.{halfLength}
+use Rattle.codebook.specs.Beams.{halfLength, beams}
 use Rattle.codebook.specs.Matrix.{Layer, fOf, tOf, whole, quartered, layers, blocks, rows, block, columnOf, matrix}
 use Rattle.codebook.specs.Choice.{InRange}
+use Rattle.codebook.proofs.Bits.{none, counted, length-offsets, length-beams}
 use Rattle.codebook.proofs.Known.{Known, known, at-setting}
 
 -- ---- half-length beams
@@ -136,6 +137,14 @@ module _ (r : Report) where
   unfolding quartered
   quarters-co co = refl
 
+  quartered-beam : (co : List ℕ) → quartered r co .beam ≡ getD (beams r) 0 none
+  unfolding quartered
+  quartered-beam co = refl
+
+  whole-beam : (b : Bracket) → whole r b .beam ≡ getD (beams r) (b .beam) none
+  unfolding whole
+  whole-beam b = refl
+
   whole-co : (b : Bracket) → length (whole r b .co) ≡ 2
   unfolding whole
   whole-co b = refl
@@ -148,7 +157,7 @@ module _ (r : Report) where
       ∙ ap (λ (n : ℕ). length (x .co) * n) (length-grid (rows r) _ (r .n2) _)
 
   -- past the last layer
-  past : Layer
+  pub past : Layer
   past = cond (halfLength r) (quartered r []) (whole r (0 ⨾ 0))
 
   -- a co-phase for each block
@@ -181,3 +190,53 @@ module _ (r : Report) where
       ∙ ap (λ (n : ℕ). n * (rows r * r .n2)) (length-co h j (omega (arith, length-layers r h)))
       ∙ column-sized r (h .setting) .all)
       ∙ ap (λ (n : ℕ). n * ports (r .n1) (r .n2)) (length-layers r h)
+
+-- ---- the beams of the layers are beams of the report
+
+-- every bracket of every rank names one of the beams of whole length
+brackets-counted : (v j : ℕ) → 1 ≤ v → v ≤ 8 → j < v → getD (getD ranks (v - 1) []) j (0 ⨾ 0) .beam < counted v (eqb v 1 || false)
+unfolding every ranks
+brackets-counted v j some few h =
+    let place : ℕ → ℕ → ℕ = λ k j. getD (getD ranks k []) j (0 ⨾ 0) .beam in
+    let bound : ℕ → ℕ = λ v. counted v (eqb v 1 || false) in
+    let t = every-at 8 (λ k. every (k + 1) (λ j. ltb (place k j) (bound (k + 1)))) tt (v - 1) (omega arith) in
+    let u = every-at (v - 1 + 1) (λ j. ltb (place (v - 1) j) (bound (v - 1 + 1))) t j (omega arith) in
+    let e : v - 1 + 1 ≡ v = omega arith in
+    rw e at (ltb→lt (place (v - 1) j) (bound (v - 1 + 1)) u)
+
+-- layer x has a beam of the report, at a place
+pub record Uses (r : Report) (x : Layer) : Type 0 where
+  pub place : ℕ
+  pub within : place < length (beams r)
+  pub same : x .beam ≡ getD (beams r) place none
+
+pub layers-use : (r : Report) → InRange r → (j : ℕ) → j < r .v → Uses r (getD (layers r) j (past r))
+unfolding layers past
+layers-use r h j k = by-length (halfLength r) refl
+  where
+    halves : List (List ℕ)
+    halves = take (r .v) (quarters (fOf r) (tOf r))
+
+    brackets : List Bracket
+    brackets = getD ranks (r .v - 1) []
+
+    some : (a b d : Bool) → 1 ≤ cond a 4 (cond b 3 (cond d 1 2))
+    some true b d = lit≤ tt
+    some false true d = lit≤ tt
+    some false false true = lit≤ tt
+    some false false false = lit≤ tt
+
+    by-length : (b : Bool) → halfLength r ≡ b
+        → Uses r (getD (cond b (map (quartered r) halves) (map (whole r) brackets)) j (cond b (quartered r []) (whole r (0 ⨾ 0))))
+    by-length true e =
+        record {
+          place = 0;
+          within = rw (length-beams r, length-offsets r) (some (leb 7 (r .v)) (leb 5 (r .v)) (eqb (r .v) 1 || halfLength r));
+          same = ap (λ (x : Layer). x .beam) (List·getD-map (quartered r) halves j []) ∙ quartered-beam r (getD halves j []);
+        }
+    by-length false e =
+        record {
+          place = getD brackets j (0 ⨾ 0) .beam;
+          within = rw (length-beams r, length-offsets r, e) (brackets-counted (r .v) j (h .some) (h .few) k);
+          same = ap (λ (x : Layer). x .beam) (List·getD-map (whole r) brackets j (0 ⨾ 0)) ∙ whole-beam r (getD brackets j (0 ⨾ 0));
+        }

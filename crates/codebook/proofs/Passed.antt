@@ -144,3 +144,18 @@ accepted-of r mask ranks room e =
       beams = rest .1 .1 .1 .1 .0;
       fits = ltb-false _ _ (rest .1 .1 .1 .1 .1 .0);
     }
+
+-- ---- more room
+
+early-zero : (r : Report) (mask : List ℕ) (ranks room : ℕ) → refusal r mask ranks room ≡ 0 → first (early r mask ranks) ≡ 0
+early-zero r mask ranks room e = go (first (early r mask ranks)) refl
+  where
+    go : (k : ℕ) → first (early r mask ranks) ≡ k → first (early r mask ranks) ≡ 0
+    go zero q = q
+    go (suc k) q = refused-early r mask ranks room (λ z. let s : suc k ≡ 0 = sym q ∙ z in omega arith) ∙ e
+
+pub more-room : (r : Report) (mask : List ℕ) (ranks room room′ : ℕ) → room ≤ room′
+    → refusal r mask ranks room ≡ 0 → refusal r mask ranks room′ ≡ 0
+more-room r mask ranks room room′ h e =
+    let a = accepted-of r mask ranks room e in
+    sym (not-refused r mask ranks room′ (early-zero r mask ranks room e) (a .beams) (omega (arith, a .fits)))

@@ -6,6 +6,10 @@ use lib.ListN.{length, drop}
 use Rattle.codebook.specs.declared.Report.{Report}
 use Rattle.precoder.specs.Answer.{recordOf, bufferOf}
 
+pub record-number : (r : Report) (k : ℕ) → recordOf r k .refusal ≡ k
+record-number r zero = refl
+record-number r (suc k) = refl
+
 pub record-refused : (r : Report) (k : ℕ) → (k ≡ 0 → ⊥) → record { refusal = k; ports = 0; layers = 0; scale = 0 } ≡ recordOf r k
 record-refused r zero h = absurd (h refl)
 record-refused r (suc k) h = refl
