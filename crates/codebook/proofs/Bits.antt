@@ -145,10 +145,10 @@ length-offsets r = go (leb 7 (r .v)) (leb 5 (r .v)) (eqb (r .v) 1 || halfLength 
   where
     go : (a b d c : Bool)
         → length (cond a
-            (cond c (beam 0 0 ∷ beam 1 0 ∷ beam 0 1 ∷ beam 1 1 ∷ []) (beam 0 0 ∷ beam 1 0 ∷ beam 2 0 ∷ beam 3 0 ∷ []))
-            (cond b
-                (cond c (beam 0 0 ∷ beam 1 0 ∷ beam 1 1 ∷ []) (beam 0 0 ∷ beam 1 0 ∷ beam 2 0 ∷ []))
-                (cond d (beam 0 0 ∷ []) (beam 0 0 ∷ getD (kRows r) (r .i13) (beam 0 0) ∷ []))))
+        (cond c (beam 0 0 ∷ beam 1 0 ∷ beam 0 1 ∷ beam 1 1 ∷ []) (beam 0 0 ∷ beam 1 0 ∷ beam 2 0 ∷ beam 3 0 ∷ []))
+        (cond b
+        (cond c (beam 0 0 ∷ beam 1 0 ∷ beam 1 1 ∷ []) (beam 0 0 ∷ beam 1 0 ∷ beam 2 0 ∷ []))
+        (cond d (beam 0 0 ∷ []) (beam 0 0 ∷ getD (kRows r) (r .i13) (beam 0 0) ∷ []))))
         ≡ cond a 4 (cond b 3 (cond d 1 2))
     go true b d true = refl
     go true b d false = refl
@@ -186,7 +186,13 @@ module _ (r : Report) where
       → down (r .n2) * getD (accepted r .l) i 0 + getD (accepted r .m) i 0 < 8 * maskBytes (r .n1) (r .n2)
   unfolding beamBit
   accepted-bit e more i h =
-      rw (accepted-l, accepted-m, four-at (λ x. x .l) (beams r) i h, four-at (λ x. x .m) (beams r) i h, mask-bits _ _ e more)
+      rw (
+        accepted-l,
+        accepted-m,
+        four-at (λ x. x .l) (beams r) i h,
+        four-at (λ x. x .m) (beams r) i h,
+        mask-bits _ _ e more,
+      )
       (bit-within _ _ _ (beams-within r e i))
 
   -- they are those that the report reads
@@ -213,4 +219,4 @@ module _ (r : Report) (mask : List ℕ) (clear : barred mask r ≡ false) where
       bit-one mask _
       (ap (isZero mask) (sym (List·getD-map (beamBit (r .n2)) (beams r) i none))
       ∙ some-false (isZero mask) (map (beamBit (r .n2)) (beams r)) (beamBit (r .n2) none) i e
-        (rw (length-map (beams r) (beamBit (r .n2))) h))
+      (rw (length-map (beams r) (beamBit (r .n2))) h))

@@ -82,7 +82,13 @@ module _ (r : Report) (whole : halfLength r ≡ false) where
     pub rows-two : r .v ≡ 2 → kRows r ≡ kTwo (r .n1) (r .n2)
     unfolding kRows
     rows-two e =
-        rw (whole, ne-eqb _ _ more, ne-eqb (r .v) 1 (λ q. omega arith), lt-leb 5 (r .v) (omega arith), eq-eqb (r .v) 2 e)
+        rw (
+          whole,
+          ne-eqb _ _ more,
+          ne-eqb (r .v) 1 (λ q. omega arith),
+          lt-leb 5 (r .v) (omega arith),
+          eq-eqb (r .v) 2 e,
+        )
 
     pub rows-three : 3 ≤ r .v → r .v ≤ 4 → kRows r ≡ kThree (r .n1) (r .n2)
     unfolding kRows

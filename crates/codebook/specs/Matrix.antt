@@ -3,14 +3,14 @@ use mathlib.Core.Bool.{cond}
 use mathlib.Core.List.{List, [], _∷_, map}
 use Prim.Native.Nat.{ℕ, _+_, _*_, _-_, _/_, _%_}
 use lib.ListN.{getD, take}
-use Rattle.turn.specs.Phase.{half, quarter, eighth, phase}
+use Rattle.turn.specs.Phase.{half, quarter, eighth}
 use Rattle.turn.specs.Column.{grid, step, column}
 use Rattle.codebook.specs.declared.Report.{Report}
 use Rattle.codebook.specs.declared.Beam.{Beam}
 use Rattle.codebook.specs.Lists.{join}
 use Rattle.codebook.specs.Settings.{o1, o2}
 use Rattle.codebook.specs.Ranks.{Bracket, ranks, quarters}
-use Rattle.codebook.specs.Beams.{beam, halfLength, n, base, beams}
+use Rattle.codebook.specs.Beams.{beam, halfLength, n, beams}
 
 -- a layer: its beam, and what is added to each block of its ports
 pub record Layer : Type 0 where

@@ -6,7 +6,7 @@
 use mathlib.Core.Path.{_≡_, refl, sym, ap, _∙_}
 use mathlib.Core.Logic.{_↔_}
 use mathlib.Core.List.{List, _++_, map, append-assoc}
-use Prim.Native.Nat.{ℕ, _*_, _<_}
+use Prim.Native.Nat.{ℕ, _*_}
 use native.Mathlib.Omega.{arith}
 use lib.ListN.{length, drop, replicate, length-append}
 use lib.Seq.{drop-append-le}
@@ -29,8 +29,8 @@ module _ (r : Report) (mask : List ℕ) (ranks : ℕ) where
   -- Every input has an answer.
   pub every-input-answered : (lent : List ℕ)
       → Phases r mask ranks lent
-        (recordOf r (refusal r mask ranks (length lent)))
-        (bufferOf (refusal r mask ranks (length lent)) (matrix r) lent)
+      (recordOf r (refusal r mask ranks (length lent)))
+      (bufferOf (refusal r mask ranks (length lent)) (matrix r) lent)
   every-input-answered lent = record { record-is = refl; buffer-is = refl }
 
   -- The number given is that of the first fault in the order: its test holds, and none before it does.
@@ -64,8 +64,8 @@ module _ (r : Report) (mask : List ℕ) (ranks : ℕ) where
       let long = length-layers r (a .in-range) in
       all-ones (λ (x : Layer). bit mask (beamBit (r .n2) (x .beam))) (layers r) (past r)
       (λ j h.
-        let u = layers-use r (a .in-range) j (omega arith) in
-        rw (u .same) (beams-one r mask (a .beams) more (u .place) (u .within)))
+      let u = layers-use r (a .in-range) j (omega arith) in
+      rw (u .same) (beams-one r mask (a .beams) more (u .place) (u .within)))
 
 module _ (r : Report) (mask : List ℕ) (ranks : ℕ) {lent : List ℕ} {given : Record} {left : List ℕ}
     (call : Phases r mask ranks lent given left) where
@@ -77,8 +77,7 @@ module _ (r : Report) (mask : List ℕ) (ranks : ℕ) {lent : List ℕ} {given :
       → (left ≡ lent) × (given ≡ record { refusal = given .refusal; ports = 0; layers = 0; scale = 0 })
   refused-as-lent h =
       let k = refusal r mask ranks (length lent) in
-      let no : k ≡ 0 → ⊥ = λ e. h (number-given ∙ e) in
-      (
+      let no : k ≡ 0 → ⊥ = λ e. h (number-given ∙ e) in (
         call .buffer-is ∙ buffer-refused k (matrix r) lent no,
         call .record-is ∙ sym (record-refused r k no) ∙ rw number-given,
       )
@@ -90,8 +89,7 @@ module _ (r : Report) (mask : List ℕ) (ranks : ℕ) {lent : List ℕ} {given :
       × (given ≡ recordOf r 0)
   accepted-as-matrix e =
       let z = sym number-given ∙ e in
-      let long = length-matrix r (accepted-of r mask ranks (length lent) z .in-range) in
-      (
+      let long = length-matrix r (accepted-of r mask ranks (length lent) z .in-range) in (
         call .buffer-is ∙ buffer-accepted _ (matrix r) lent _ z long,
         long,
         call .record-is ∙ ap (recordOf r) z,
@@ -105,12 +103,11 @@ module _ (r : Report) (mask : List ℕ) (ranks : ℕ) {lent : List ℕ} {given :
       let a = accepted-of r mask ranks (length lent) z in
       let long = length-matrix r (a .in-range) in
       let z′ : refusal r mask ranks (length (lent ++ more)) ≡ 0 =
-      more-room r mask ranks (length lent) (length (lent ++ more)) (simp length-append (omega arith)) z in
-      (
+      more-room r mask ranks (length lent) (length (lent ++ more)) (simp length-append (omega arith)) z in (
         call′ .record-is ∙ ap (recordOf r) (z′ ∙ sym z) ∙ sym (call .record-is),
         call′ .buffer-is
-        ∙ buffer-accepted _ (matrix r) (lent ++ more) _ z′ long
-        ∙ ap (λ (l : List ℕ). matrix r ++ l) (drop-append-le _ lent more (a .fits))
-        ∙ sym (append-assoc (matrix r) _ more)
-        ∙ ap (λ (l : List ℕ). l ++ more) (sym (call .buffer-is ∙ buffer-accepted _ (matrix r) lent _ z long)),
+            ∙ buffer-accepted _ (matrix r) (lent ++ more) _ z′ long
+            ∙ ap (λ (l : List ℕ). matrix r ++ l) (drop-append-le _ lent more (a .fits))
+            ∙ sym (append-assoc (matrix r) _ more)
+            ∙ ap (λ (l : List ℕ). l ++ more) (sym (call .buffer-is ∙ buffer-accepted _ (matrix r) lent _ z long)),
       )

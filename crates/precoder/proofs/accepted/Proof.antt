@@ -3,7 +3,6 @@ use native.Mathlib.Nat.{mul-le-mul}
 use native.Mathlib.Omega.{arith}
 use borrow.Author.Needs.{needs}
 use Rattle.codebook.proofs.Known.{known, ports-few}
-use Rattle.codebook.specs.Settings.{setting}
 use Rattle.precoder.proofs.accepted.Statement.{statement}
 use Rattle.precoder.proofs.accepted.Tie as tie
 

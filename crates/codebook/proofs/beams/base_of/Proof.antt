@@ -52,7 +52,13 @@ add-t13 c = rw (c .before .before .before .before .before .g-of .ensures) (omega
 
 returns-3 : tie.Need-returns-3
 unfolding base
-returns-3 c = rw (whole (c .before .before .before .before .before .before .before .before), mode-two (c .before .before .before .before .before .before), lt-ltb _ _ (c .before .before .if3 .taken), c .before .before .before .before .before .g-of .ensures)
+returns-3 c =
+    rw (
+      whole (c .before .before .before .before .before .before .before .before),
+      mode-two (c .before .before .before .before .before .before),
+      lt-ltb _ _ (c .before .before .if3 .taken),
+      c .before .before .before .before .before .g-of .ensures,
+    )
 
 mul-t7 : tie.Need-mul-t7
 mul-t7 c = omega (arith, i11-few _ (c .before .before .before .before .before .before .before .before .before .pre))
@@ -62,7 +68,13 @@ add-t14 c = rw (c .before .before .before .before .g-of .ensures) (omega (arith,
 
 returns-4 : tie.Need-returns-4
 unfolding base
-returns-4 c = rw (whole (c .before .before .before .before .before .before .before), mode-two (c .before .before .before .before .before), le-ltb _ _ (c .before .if3 .left), c .before .before .before .before .g-of .ensures)
+returns-4 c =
+    rw (
+      whole (c .before .before .before .before .before .before .before),
+      mode-two (c .before .before .before .before .before),
+      le-ltb _ _ (c .before .if3 .left),
+      c .before .before .before .before .g-of .ensures,
+    )
 
 pub base-of-spec : {M : Type 1} → statement M
 base-of-spec =

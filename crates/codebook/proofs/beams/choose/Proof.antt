@@ -6,7 +6,6 @@ use lib.Dec.{leb}
 use borrow.Author.Needs.{needs}
 use borrow.Author.Tests.{eq-eqb, ne-eqb, le-leb, lt-leb}
 use Rattle.codebook.specs.Beams.{offsets}
-use Rattle.codebook.specs.Lists.{some}
 use Rattle.codebook.proofs.Rows.{rows-near}
 use Rattle.codebook.proofs.beams.choose.Statement.{statement}
 use Rattle.codebook.proofs.beams.choose.Tie as tie

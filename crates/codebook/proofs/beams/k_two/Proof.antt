@@ -49,7 +49,12 @@ array-copy-out-result-2 c = omega (arith, two-rows-few _ _ (c .before .before .p
 
 returns-2 : tie.Need-returns-2
 unfolding kTwo
-returns-2 c = rw (lt-ltb 1 _ (above (c .before .before)), le-ltb (c .before .before .before .args .n2) (c .before .before .before .args .n1) (omega arith), eq-eqb _ _ (c .before .if2 .taken))
+returns-2 c =
+    rw (
+      lt-ltb 1 _ (above (c .before .before)),
+      le-ltb (c .before .before .before .args .n2) (c .before .before .before .args .n1) (omega arith),
+      eq-eqb _ _ (c .before .if2 .taken),
+    )
 
 mul-result-3 : tie.Need-mul-result-3
 mul-result-3 c = search needs

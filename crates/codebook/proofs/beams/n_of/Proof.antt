@@ -17,7 +17,11 @@ rem-result c = rw (c .before .g-of .ensures) (g-some (c .before .before .before 
 
 returns : tie.Need-returns
 unfolding n
-returns c = rw (c .before .g-of .ensures, sym (c .before .before .before .is-mode-two .ensures) ∙ c .before .before .if1 .taken)
+returns c =
+    rw (
+      c .before .g-of .ensures,
+      sym (c .before .before .before .is-mode-two .ensures) ∙ c .before .before .if1 .taken,
+    )
 
 returns-2 : tie.Need-returns-2
 unfolding n

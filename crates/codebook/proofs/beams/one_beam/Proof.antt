@@ -3,7 +3,6 @@ use lib.Dec.{lit≤}
 use borrow.Author.Needs.{needs}
 use Rattle.codebook.specs.Beams.{beams}
 use Rattle.codebook.specs.Choice.{accepted}
-use Rattle.codebook.specs.Settings.{setting}
 use Rattle.codebook.proofs.Bounds.{base-near}
 use Rattle.codebook.proofs.beams.one_beam.Statement.{statement}
 use Rattle.codebook.proofs.beams.one_beam.Tie as tie
@@ -19,7 +18,14 @@ n-of-requires c κs = search needs
 
 returns : tie.Need-returns
 unfolding accepted beams
-returns c = rw (c .before .before .moved-by .ensures, c .before .blocks-of .ensures, c .n-of .ensures, c .before .before .before .pre .1, c .before .before .before .pre .2)
+returns c =
+    rw (
+      c .before .before .moved-by .ensures,
+      c .before .blocks-of .ensures,
+      c .n-of .ensures,
+      c .before .before .before .pre .1,
+      c .before .before .before .pre .2,
+    )
 
 pub one-beam-spec : {M : Type 1} → statement M
 one-beam-spec = tie.close (tie.spec moved-by-requires blocks-of-requires n-of-requires returns)

@@ -6,7 +6,6 @@ use lib.Dec.{ltb, lit≤}
 use borrow.Author.Needs.{needs}
 use Rattle.codebook.specs.Beams.{beam, beams}
 use Rattle.codebook.specs.Choice.{accepted}
-use Rattle.codebook.specs.Settings.{setting}
 use Rattle.codebook.proofs.Bounds.{base-near, near-either}
 use Rattle.codebook.proofs.beams.three_beams.Statement.{statement}
 use Rattle.codebook.proofs.beams.three_beams.Tie as tie

@@ -3,7 +3,6 @@ use lib.Dec.{lit≤}
 use borrow.Author.Needs.{needs}
 use Rattle.codebook.specs.Beams.{beams}
 use Rattle.codebook.specs.Choice.{accepted}
-use Rattle.codebook.specs.Settings.{setting}
 use Rattle.codebook.proofs.Bounds.{base-near}
 use Rattle.codebook.proofs.beams.two_beams.Statement.{statement}
 use Rattle.codebook.proofs.beams.two_beams.Tie as tie

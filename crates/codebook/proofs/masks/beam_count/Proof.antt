@@ -10,31 +10,42 @@ returns : tie.Need-returns
 returns c = rw (length-offsets (c .before .before .args .r), le-leb 7 _ (c .if1 .taken))
 
 returns-2 : tie.Need-returns-2
-returns-2 c = rw (length-offsets (c .before .before .before .before .args .r), lt-leb 7 _ (c .before .before .if1 .left), le-leb 5 _ (c .if2 .taken))
+returns-2 c =
+    rw (
+      length-offsets (c .before .before .before .before .args .r),
+      lt-leb 7 _ (c .before .before .if1 .left),
+      le-leb 5 _ (c .if2 .taken),
+    )
 
 returns-3 : tie.Need-returns-3
-returns-3 c = rw (length-offsets (c .before .before .before .before .before .before .args .r), lt-leb 7 _ (c .before .before .before .before .if1 .left), lt-leb 5 _ (c .before .before .if2 .left), eq-eqb _ _ (c .if3 .taken))
+returns-3 c =
+    rw (
+      length-offsets (c .before .before .before .before .before .before .args .r),
+      lt-leb 7 _ (c .before .before .before .before .if1 .left),
+      lt-leb 5 _ (c .before .before .if2 .left),
+      eq-eqb _ _ (c .if3 .taken),
+    )
 
 is-half-length-requires : tie.Need-is-half-length-requires
 is-half-length-requires c κs = search needs
 
 returns-4 : tie.Need-returns-4
 returns-4 c = rw (
-        length-offsets (c .before .before .before .before .before .before .before .before .args .r),
-        lt-leb 7 _ (c .before .before .before .before .before .before .if1 .left),
-        lt-leb 5 _ (c .before .before .before .before .if2 .left),
-        ne-eqb _ _ (c .before .before .if3 .left),
-        sym (c .before .is-half-length .ensures) ∙ c .if4 .taken,
-    )
+  length-offsets (c .before .before .before .before .before .before .before .before .args .r),
+  lt-leb 7 _ (c .before .before .before .before .before .before .if1 .left),
+  lt-leb 5 _ (c .before .before .before .before .if2 .left),
+  ne-eqb _ _ (c .before .before .if3 .left),
+  sym (c .before .is-half-length .ensures) ∙ c .if4 .taken,
+)
 
 returns-5 : tie.Need-returns-5
 returns-5 c = rw (
-        length-offsets (c .before .before .before .before .before .before .before .before .args .r),
-        lt-leb 7 _ (c .before .before .before .before .before .before .if1 .left),
-        lt-leb 5 _ (c .before .before .before .before .if2 .left),
-        ne-eqb _ _ (c .before .before .if3 .left),
-        sym (c .before .is-half-length .ensures) ∙ c .if4 .left,
-    )
+  length-offsets (c .before .before .before .before .before .before .before .before .args .r),
+  lt-leb 7 _ (c .before .before .before .before .before .before .if1 .left),
+  lt-leb 5 _ (c .before .before .before .before .if2 .left),
+  ne-eqb _ _ (c .before .before .if3 .left),
+  sym (c .before .is-half-length .ensures) ∙ c .if4 .left,
+)
 
 pub beam-count-spec : {M : Type 1} → statement M
 beam-count-spec =

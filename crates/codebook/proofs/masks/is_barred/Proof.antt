@@ -7,7 +7,6 @@ use borrow.Author.Needs.{needs}
 use borrow.Author.Tests.{eq-eqb}
 use Rattle.codebook.specs.Lists.{some}
 use Rattle.codebook.specs.Masks.{bitsRead, isZero, barred}
-use Rattle.codebook.specs.Settings.{setting}
 use Rattle.codebook.proofs.Bits.{offsets-few, accepted-bit, accepted-bits}
 use Rattle.codebook.proofs.Booleans.{or-nothing}
 use Rattle.codebook.proofs.Bounds.{two-ports-i2, two-ports-bit, two-ports-mask}

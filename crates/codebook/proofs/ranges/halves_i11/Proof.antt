@@ -18,19 +18,40 @@ is-half-length-requires c κs = search needs
 
 returns-2 : tie.Need-returns-2
 unfolding halvesI11
-returns-2 c = rw (sym (c .before .before .before .is-mode-two .ensures) ∙ c .before .before .if1 .left, sym (c .before .is-half-length .ensures) ∙ c .if2 .taken)
+returns-2 c =
+    rw (
+      sym (c .before .before .before .is-mode-two .ensures) ∙ c .before .before .if1 .left,
+      sym (c .before .is-half-length .ensures) ∙ c .if2 .taken,
+    )
 
 returns-3 : tie.Need-returns-3
 unfolding halvesI11
-returns-3 c = rw (sym (c .before .before .before .before .before .is-mode-two .ensures) ∙ c .before .before .before .before .if1 .left, sym (c .before .before .before .is-half-length .ensures) ∙ c .before .before .if2 .left, lt-leb _ _ (c .if3 .taken))
+returns-3 c =
+    rw (
+      sym (c .before .before .before .before .before .is-mode-two .ensures) ∙ c .before .before .before .before .if1 .left,
+      sym (c .before .before .before .is-half-length .ensures) ∙ c .before .before .if2 .left,
+      lt-leb _ _ (c .if3 .taken),
+    )
 
 returns-4 : tie.Need-returns-4
 unfolding halvesI11
-returns-4 c = rw (sym (c .before .before .before .before .before .before .before .is-mode-two .ensures) ∙ c .before .before .before .before .before .before .if1 .left, sym (c .before .before .before .before .before .is-half-length .ensures) ∙ c .before .before .before .before .if2 .left, le-leb _ _ (c .before .before .if3 .left), ne-eqb _ _ (c .if4 .taken))
+returns-4 c =
+    rw (
+      sym (c .before .before .before .before .before .before .before .is-mode-two .ensures) ∙ c .before .before .before .before .before .before .if1 .left,
+      sym (c .before .before .before .before .before .is-half-length .ensures) ∙ c .before .before .before .before .if2 .left,
+      le-leb _ _ (c .before .before .if3 .left),
+      ne-eqb _ _ (c .if4 .taken),
+    )
 
 returns-5 : tie.Need-returns-5
 unfolding halvesI11
-returns-5 c = rw (sym (c .before .before .before .before .before .before .before .before .is-mode-two .ensures) ∙ c .before .before .before .before .before .before .before .if1 .left, sym (c .before .before .before .before .before .before .is-half-length .ensures) ∙ c .before .before .before .before .before .if2 .left, le-leb _ _ (c .before .before .before .if3 .left), eq-eqb _ _ (c .before .if4 .left))
+returns-5 c =
+    rw (
+      sym (c .before .before .before .before .before .before .before .before .is-mode-two .ensures) ∙ c .before .before .before .before .before .before .before .if1 .left,
+      sym (c .before .before .before .before .before .before .is-half-length .ensures) ∙ c .before .before .before .before .before .if2 .left,
+      le-leb _ _ (c .before .before .before .if3 .left),
+      eq-eqb _ _ (c .before .if4 .left),
+    )
 
 pub halves-i11-spec : {M : Type 1} → statement M
 halves-i11-spec =

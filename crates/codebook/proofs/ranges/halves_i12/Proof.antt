@@ -26,15 +26,29 @@ returns c = rw (sym (c .before .before .is-mode-two .ensures) ∙ c .before .if1
 
 returns-2 : tie.Need-returns-2
 unfolding halvesI12
-returns-2 c = rw (sym (c .before .before .before .is-mode-two .ensures) ∙ c .before .before .if1 .left, lt-leb _ _ (c .if2 .taken))
+returns-2 c =
+    rw (
+      sym (c .before .before .before .is-mode-two .ensures) ∙ c .before .before .if1 .left,
+      lt-leb _ _ (c .if2 .taken),
+    )
 
 returns-3 : tie.Need-returns-3
 unfolding halvesI12
-returns-3 c = rw (sym (c .before .before .before .before .before .is-mode-two .ensures) ∙ c .before .before .before .before .if1 .left, le-leb _ _ (c .before .before .if2 .left), le-ltb _ _ (c .if3 .taken))
+returns-3 c =
+    rw (
+      sym (c .before .before .before .before .before .is-mode-two .ensures) ∙ c .before .before .before .before .if1 .left,
+      le-leb _ _ (c .before .before .if2 .left),
+      le-ltb _ _ (c .if3 .taken),
+    )
 
 returns-4 : tie.Need-returns-4
 unfolding halvesI12
-returns-4 c = rw (sym (c .before .before .before .before .before .before .is-mode-two .ensures) ∙ c .before .before .before .before .before .if1 .left, le-leb _ _ (c .before .before .before .if2 .left), lt-ltb _ _ (c .before .if3 .left))
+returns-4 c =
+    rw (
+      sym (c .before .before .before .before .before .before .is-mode-two .ensures) ∙ c .before .before .before .before .before .if1 .left,
+      le-leb _ _ (c .before .before .before .if2 .left),
+      lt-ltb _ _ (c .before .if3 .left),
+    )
 
 pub halves-i12-spec : {M : Type 1} → statement M
 halves-i12-spec = tie.close (tie.spec is-mode-two-requires returns returns-2 returns-3 returns-4)

@@ -7,7 +7,7 @@ use borrow.Author.Needs.{needs}
 use borrow.Author.Tests.{eq-eqb, ne-eqb, le-leb}
 use Rattle.codebook.specs.Beams.{halfLength}
 use Rattle.codebook.specs.Ranges.{i13Values}
-use Rattle.codebook.proofs.Rows.{two-rows, three-rows, no-rows, rows-two, rows-three, few-antennas}
+use Rattle.codebook.proofs.Rows.{no-rows, rows-two, rows-three, few-antennas}
 use Rattle.codebook.proofs.ranges.i13_values.Statement.{statement}
 use Rattle.codebook.proofs.ranges.i13_values.Tie as tie
 
@@ -30,11 +30,19 @@ returns-2 c = rw (whole (c .before .before), no-rows _ (whole (c .before .before
 
 returns-3 : tie.Need-returns-3
 unfolding i13Values
-returns-3 c = rw (whole (c .before .before .before .before), no-rows _ (whole (c .before .before .before .before)) (rw (ne-eqb _ _ (c .before .before .if2 .left), eq-eqb _ _ (c .if3 .taken))))
+returns-3 c =
+    rw (
+      whole (c .before .before .before .before),
+      no-rows _ (whole (c .before .before .before .before)) (rw (ne-eqb _ _ (c .before .before .if2 .left), eq-eqb _ _ (c .if3 .taken))),
+    )
 
 returns-4 : tie.Need-returns-4
 unfolding i13Values
-returns-4 c = rw (whole (c .before .before .before .before .before .before), no-rows _ (whole (c .before .before .before .before .before .before)) (rw (ne-eqb _ _ (c .before .before .before .before .if2 .left), ne-eqb _ _ (c .before .before .if3 .left), le-leb _ _ (c .if4 .taken))))
+returns-4 c =
+    rw (
+      whole (c .before .before .before .before .before .before),
+      no-rows _ (whole (c .before .before .before .before .before .before)) (rw (ne-eqb _ _ (c .before .before .before .before .if2 .left), ne-eqb _ _ (c .before .before .if3 .left), le-leb _ _ (c .if4 .taken))),
+    )
 
 two-rows-requires : tie.Need-two-rows-requires
 two-rows-requires c κs = search needs

@@ -11,19 +11,35 @@ is-mode-two-requires c κs = search needs
 
 returns : tie.Need-returns
 unfolding i2Values
-returns c = rw (sym (c .before .before .before .is-mode-two .ensures) ∙ c .before .before .if1 .taken, eq-eqb _ _ (c .if2 .taken))
+returns c =
+    rw (
+      sym (c .before .before .before .is-mode-two .ensures) ∙ c .before .before .if1 .taken,
+      eq-eqb _ _ (c .if2 .taken),
+    )
 
 returns-2 : tie.Need-returns-2
 unfolding i2Values
-returns-2 c = rw (sym (c .before .before .before .is-mode-two .ensures) ∙ c .before .before .if1 .taken, ne-eqb _ _ (c .if2 .left))
+returns-2 c =
+    rw (
+      sym (c .before .before .before .is-mode-two .ensures) ∙ c .before .before .if1 .taken,
+      ne-eqb _ _ (c .if2 .left),
+    )
 
 returns-3 : tie.Need-returns-3
 unfolding i2Values
-returns-3 c = rw (sym (c .before .before .before .is-mode-two .ensures) ∙ c .before .before .if1 .left, eq-eqb _ _ (c .if3 .taken))
+returns-3 c =
+    rw (
+      sym (c .before .before .before .is-mode-two .ensures) ∙ c .before .before .if1 .left,
+      eq-eqb _ _ (c .if3 .taken),
+    )
 
 returns-4 : tie.Need-returns-4
 unfolding i2Values
-returns-4 c = rw (sym (c .before .before .before .is-mode-two .ensures) ∙ c .before .before .if1 .left, ne-eqb _ _ (c .if3 .left))
+returns-4 c =
+    rw (
+      sym (c .before .before .before .is-mode-two .ensures) ∙ c .before .before .if1 .left,
+      ne-eqb _ _ (c .if3 .left),
+    )
 
 pub i2-values-spec : {M : Type 1} → statement M
 i2-values-spec = tie.close (tie.spec is-mode-two-requires returns returns-2 returns-3 returns-4)

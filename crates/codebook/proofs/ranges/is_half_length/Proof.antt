@@ -18,7 +18,12 @@ ports-of-requires c κs = search needs
 
 returns-3 : tie.Need-returns-3
 unfolding halfLength
-returns-3 c = rw (le-leb _ _ (c .before .before .before .if1 .left), le-leb _ _ (c .before .if2 .left), c .ports-of .ensures)
+returns-3 c =
+    rw (
+      le-leb _ _ (c .before .before .before .if1 .left),
+      le-leb _ _ (c .before .if2 .left),
+      c .ports-of .ensures,
+    )
 
 pub is-half-length-spec : {M : Type 1} → statement M
 is-half-length-spec = tie.close (tie.spec returns returns-2 ports-of-requires returns-3)

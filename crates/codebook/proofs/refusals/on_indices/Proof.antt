@@ -34,25 +34,46 @@ i12-values-requires c κs = search needs
 
 returns-2 : tie.Need-returns-2
 unfolding onIndices first
-returns-2 c = rw (i11-in (c .before .before .before), le-leb _ _ (rw (c .before .before .i12-values .ensures) at (c .if2 .taken)))
+returns-2 c =
+    rw (
+      i11-in (c .before .before .before),
+      le-leb _ _ (rw (c .before .before .i12-values .ensures) at (c .if2 .taken)),
+    )
 
 i13-values-requires : tie.Need-i13-values-requires
 i13-values-requires c κs = search needs
 
 returns-3 : tie.Need-returns-3
 unfolding onIndices first
-returns-3 c = rw (i11-in (c .before .before .before .before .before .before), i12-in (c .before .before .before), le-leb _ _ (rw (c .before .before .i13-values .ensures) at (c .if3 .taken)))
+returns-3 c =
+    rw (
+      i11-in (c .before .before .before .before .before .before),
+      i12-in (c .before .before .before),
+      le-leb _ _ (rw (c .before .before .i13-values .ensures) at (c .if3 .taken)),
+    )
 
 i2-values-requires : tie.Need-i2-values-requires
 i2-values-requires c κs = search needs
 
 returns-4 : tie.Need-returns-4
 unfolding onIndices first
-returns-4 c = rw (i11-in (c .before .before .before .before .before .before .before .before .before), i12-in (c .before .before .before .before .before .before), i13-in (c .before .before .before), le-leb _ _ (rw (c .before .before .i2-values .ensures) at (c .if4 .taken)))
+returns-4 c =
+    rw (
+      i11-in (c .before .before .before .before .before .before .before .before .before),
+      i12-in (c .before .before .before .before .before .before),
+      i13-in (c .before .before .before),
+      le-leb _ _ (rw (c .before .before .i2-values .ensures) at (c .if4 .taken)),
+    )
 
 returns-5 : tie.Need-returns-5
 unfolding onIndices first
-returns-5 c = rw (i11-in (c .before .before .before .before .before .before .before .before .before), i12-in (c .before .before .before .before .before .before), i13-in (c .before .before .before), i2-in c)
+returns-5 c =
+    rw (
+      i11-in (c .before .before .before .before .before .before .before .before .before),
+      i12-in (c .before .before .before .before .before .before),
+      i13-in (c .before .before .before),
+      i2-in c,
+    )
 
 pub on-indices-spec : {M : Type 1} → statement M
 on-indices-spec =

@@ -2,7 +2,6 @@
 use mathlib.Core.Path.{sym, _∙_}
 use mathlib.Core.List.{_++_}
 use borrow.Author.Needs.{needs}
-use Rattle.codebook.specs.Ranks.{ranks}
 use Rattle.codebook.specs.Refusals.{onSetting, onRank, onIndices}
 use Rattle.codebook.proofs.First.{first-stop, None, none-first}
 use Rattle.codebook.proofs.Passed.{setting-none, rank-none, is-setting, rank-fits}

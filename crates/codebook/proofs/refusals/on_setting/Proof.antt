@@ -7,7 +7,6 @@ use borrow.Author.Tests.{eq-eqb, ne-eqb, not-false, not-true}
 use Rattle.codebook.specs.Lists.{first}
 use Rattle.codebook.specs.Refusals.{onSetting}
 use Rattle.codebook.specs.Settings.{isSetting}
-use Rattle.codebook.proofs.Passed.{is-setting}
 use Rattle.codebook.proofs.refusals.on_setting.Statement.{statement}
 use Rattle.codebook.proofs.refusals.on_setting.Tie as tie
 
@@ -48,7 +47,12 @@ returns-3 c = rw (
 
 returns-4 : tie.Need-returns-4
 unfolding onSetting first
-returns-4 c = rw (known-setting (c .before .before .before .before), known-mode (c .before .before), eq-eqb _ _ (c .if3 .left ∙ c .before .mask-bytes-of .ensures))
+returns-4 c =
+    rw (
+      known-setting (c .before .before .before .before),
+      known-mode (c .before .before),
+      eq-eqb _ _ (c .if3 .left ∙ c .before .mask-bytes-of .ensures),
+    )
 
 pub on-setting-spec : {M : Type 1} → statement M
 on-setting-spec =
