@@ -13,11 +13,10 @@ use lib.ListN.{length, getD, replicate, length-map, List·getD-map}
 use borrow.Author.Tests.{eq-eqb, ne-eqb, eqb-false}
 use Rattle.codebook.specs.declared.Report.{Report}
 use Rattle.codebook.specs.declared.Beam.{Beam}
-use Rattle.codebook.specs.Lists.{some}
-use Rattle.codebook.specs.Settings.{isSetting, across, down, maskBytes}
-use Rattle.codebook.specs.Beams.{beam, halfLength, base, kRows, offsets, moved, beams}
+use Rattle.codebook.specs.Settings.{some, isSetting, across, down, maskBytes}
+use Rattle.codebook.specs.Columns.{beam, halfLength, base, kRows, offsets, moved, beams}
 use Rattle.codebook.specs.Masks.{bitOf, bit, beamBit, bitsRead, isZero, barred}
-use Rattle.codebook.specs.Choice.{lOf, mOf, accepted, bitsAt}
+use Rattle.codebook.specs.Refusals.{lOf, mOf, accepted, bitsAt}
 use Rattle.codebook.proofs.Booleans.{or-false}
 use Rattle.codebook.proofs.Known.{known, mask-bits}
 

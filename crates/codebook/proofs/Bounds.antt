@@ -8,10 +8,9 @@ use borrow.Author.Tests.{eq-eqb, leb-true}
 use Rattle.codebook.specs.declared.Report.{Report}
 use Rattle.codebook.specs.declared.Beam.{Beam}
 use Rattle.codebook.specs.Settings.{across, down, maskBytes}
-use Rattle.codebook.specs.Beams.{modeTwo, halfLength, base, g, q}
-use Rattle.codebook.specs.Ranges.{halvesI11, i11Values, halvesI12, i12Values, i2Values}
+use Rattle.codebook.specs.Columns.{modeTwo, halfLength, base, g, q, halvesI11, i11Values, halvesI12, i12Values, i2Values}
 use Rattle.codebook.specs.Masks.{twoPortBit}
-use Rattle.codebook.specs.Choice.{InRange, Near}
+use Rattle.codebook.specs.Refusals.{InRange, Near}
 use Rattle.codebook.proofs.Booleans.{and-true-left, and-true-right, and-nothing}
 use Rattle.codebook.proofs.Known.{known}
 

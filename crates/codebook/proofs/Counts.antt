@@ -5,10 +5,9 @@ use mathlib.Core.List.{List, [], _∷_, map}
 use Prim.Native.Nat.{ℕ, zero, suc, _+_, _*_}
 use lib.Dec.{ltb}
 use Rattle.codebook.specs.declared.Report.{Report}
-use Rattle.codebook.specs.Lists.{join}
 use Rattle.codebook.specs.Settings.{settings, ports}
-use Rattle.codebook.specs.Beams.{modeTwo, halfLength, kRows, kTwo, kThree}
-use Rattle.codebook.specs.Ranges.{halvesI11, i11Values, halvesI12, i12Values, i13Values, i2Values}
+use Rattle.codebook.specs.Columns.{modeTwo, halfLength, kRows, kTwo, kThree, halvesI11, i11Values, halvesI12, i12Values, i13Values, i2Values}
+use Rattle.codebook.specs.Matrix.{join}
 
 -- the reports in range of a setting, mode and rank; the indices themselves play no part
 inRange : Report → ℕ

@@ -6,7 +6,7 @@ use Prim.Native.Nat.{ℕ}
 use native.Mathlib.Omega.{arith}
 use lib.Dec.{T, ltb, ltb→lt}
 use Rattle.turn.proofs.Tests.{and-left, and-right}
-use Rattle.codebook.specs.Lists.{first}
+use Rattle.codebook.specs.Refusals.{first}
 
 -- every number of the list is above 0
 abbrev pub numbered : List (Bool × ℕ) → Bool

@@ -8,8 +8,7 @@ use native.Mathlib.Omega.{arith}
 use lib.Dec.{T, eqb, leb, ltb, eqb→eq, leb→le, lit≤}
 use Rattle.turn.specs.Phase.{turn}
 use Rattle.turn.proofs.Tests.{and-left, and-right, or-cases, or-else}
-use Rattle.codebook.specs.Lists.{some}
-use Rattle.codebook.specs.Settings.{settings, isSetting, ports, twoPorts, o1, o2, across, down, maskBytes}
+use Rattle.codebook.specs.Settings.{some, settings, isSetting, ports, twoPorts, o1, o2, across, down, maskBytes}
 
 -- the test passes at every pair of a list
 abbrev pub holds : (ℕ → ℕ → Bool) → List (ℕ × ℕ) → Bool

@@ -13,12 +13,10 @@ use Rattle.turn.specs.Column.{product, column}
 use Rattle.turn.proofs.Lists.{length-product, length-grid}
 use Rattle.turn.proofs.Tests.{and-left, and-right, or-else, every, every-at}
 use Rattle.codebook.specs.declared.Report.{Report}
-use Rattle.codebook.specs.Lists.{join}
 use Rattle.codebook.specs.Settings.{settings, isSetting, ports}
-use Rattle.codebook.specs.Ranks.{Bracket, _⨾_, ranks, quarters}
-use Rattle.codebook.specs.Beams.{halfLength, beams}
-use Rattle.codebook.specs.Matrix.{Layer, fOf, tOf, whole, quartered, layers, blocks, rows, block, columnOf, matrix}
-use Rattle.codebook.specs.Choice.{InRange}
+use Rattle.codebook.specs.Columns.{Bracket, _⨾_, ranks, quarters, halfLength, beams}
+use Rattle.codebook.specs.Matrix.{join, Layer, fOf, tOf, whole, quartered, layers, blocks, rows, block, columnOf, matrix}
+use Rattle.codebook.specs.Refusals.{InRange}
 use Rattle.codebook.proofs.Bits.{none, counted, length-offsets, length-beams}
 use Rattle.codebook.proofs.Known.{Known, known, at-setting}
 

@@ -8,11 +8,9 @@ use lib.Dec.{eqb, ltb}
 use lib.ListN.{length}
 use borrow.Author.Tests.{not-false, eqb-true, eqb-false, lt-ltb, le-ltb, ltb-false, leb-false}
 use Rattle.codebook.specs.declared.Report.{Report}
-use Rattle.codebook.specs.Lists.{first}
 use Rattle.codebook.specs.Settings.{isSetting, ports, maskBytes}
 use Rattle.codebook.specs.Masks.{barred, rankBarred}
-use Rattle.codebook.specs.Refusals.{onSetting, onRank, onIndices, onAnswer, refusals, refusal}
-use Rattle.codebook.specs.Choice.{InRange, refused, accepted, judged}
+use Rattle.codebook.specs.Refusals.{first, onSetting, onRank, onIndices, onAnswer, refusals, refusal, InRange, refused, accepted, judged}
 use Rattle.codebook.proofs.Booleans.{or-false}
 use Rattle.codebook.proofs.First.{None, first-stop, first-none, none-first}
 

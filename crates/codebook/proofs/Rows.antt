@@ -11,9 +11,8 @@ use Rattle.turn.proofs.Tests.{and-left, and-right, or-else, two-le}
 use Rattle.codebook.specs.declared.Report.{Report}
 use Rattle.codebook.specs.declared.Beam.{Beam}
 use Rattle.codebook.specs.Settings.{settings, isSetting, ports}
-use Rattle.codebook.specs.Beams.{beam, halfLength, kTwo, kThree, kRows}
-use Rattle.codebook.specs.Ranges.{i13Values}
-use Rattle.codebook.specs.Choice.{Near}
+use Rattle.codebook.specs.Columns.{beam, halfLength, kTwo, kThree, kRows, i13Values}
+use Rattle.codebook.specs.Refusals.{Near}
 use Rattle.codebook.proofs.Known.{holds, at-setting}
 
 module _ (n1 n2 : ℕ) (set : isSetting n1 n2 ≡ true) (more : n1 ≡ 1 → ⊥) where

@@ -1,14 +1,13 @@
 -- The masks: which bits a report reads, and whether one of them is zero.
-use mathlib.Core.Bool.{Bool, cond}
+use mathlib.Core.Bool.{Bool}
 use mathlib.Core.List.{List, [], _∷_, map}
 use Prim.Native.Nat.{ℕ, _+_, _-_, _*_, _/_, _%_, _^_}
 use lib.Dec.{eqb}
 use lib.ListN.{getD}
 use Rattle.codebook.specs.declared.Report.{Report}
 use Rattle.codebook.specs.declared.Beam.{Beam}
-use Rattle.codebook.specs.Lists.{some}
-use Rattle.codebook.specs.Settings.{twoPorts, down}
-use Rattle.codebook.specs.Beams.{beams}
+use Rattle.codebook.specs.Settings.{_⇒_∣_, some, twoPorts, down}
+use Rattle.codebook.specs.Columns.{beams}
 
 -- bit k of a byte: the bit of value 2 to the power k
 abbrev pub bitOf : ℕ → ℕ → ℕ
@@ -24,11 +23,11 @@ beamBit n2 x = down n2 * x .l + x .m
 
 -- two ports: bits 0 to 3 for i2 at v = 1, and bits 4 and 5 at v = 2
 unfoldable pub twoPortBit : Report → ℕ
-twoPortBit r = cond (eqb (r .v) 1) (r .i2) (4 + r .i2)
+twoPortBit r = eqb (r .v) 1 ⇒ r .i2 ∣ 4 + r .i2
 
 -- the bits of the beam mask that a report reads
 unfoldable pub bitsRead : Report → List ℕ
-bitsRead r = cond (twoPorts (r .n1)) (twoPortBit r ∷ []) (map (beamBit (r .n2)) (beams r))
+bitsRead r = twoPorts (r .n1) ⇒ twoPortBit r ∷ [] ∣ map (beamBit (r .n2)) (beams r)
 
 unfoldable pub isZero : List ℕ → ℕ → Bool
 isZero mask k = eqb (bit mask k) 0

@@ -1,22 +1,28 @@
 -- The settings (N1,N2), and what follows from one: ports, oversampling, beams in each direction, bytes of the beam mask.
-use mathlib.Core.Bool.{Bool, cond, _&&_}
+use mathlib.Core.Bool.{Bool, false, cond, _&&_, _||_}
 use mathlib.Core.List.{List, [], _∷_}
 use Prim.Native.Nat.{ℕ, _*_, _/_}
 use lib.Dec.{eqb, ltb}
-use Rattle.turn.specs.Column.{Setting}
-use Rattle.codebook.specs.Lists.{some}
+
+infixr 10 _⇒_∣_
+-- by cases: the first whose test holds, and what stands last where none does
+abbrev pub _⇒_∣_ : {A : Type 0} → Bool → A → A → A
+test ⇒ x ∣ y = cond test x y
 
 -- in order of their ports: 2, 4, 8, 12, 16, 24, 32
 unfoldable pub settings : List (ℕ × ℕ)
 settings =
-    (1, 1)
-    ∷ (2, 1)
+    (1, 1) ∷ (2, 1)
     ∷ (2, 2) ∷ (4, 1)
     ∷ (3, 2) ∷ (6, 1)
     ∷ (4, 2) ∷ (8, 1)
     ∷ (4, 3) ∷ (6, 2) ∷ (12, 1)
-    ∷ (4, 4) ∷ (8, 2) ∷ (16, 1)
-    ∷ []
+    ∷ (4, 4) ∷ (8, 2) ∷ (16, 1) ∷ []
+
+-- some element passes the test
+unfoldable pub some : {A : Type 0} → (A → Bool) → List A → Bool
+some test [] = false
+some test (x ∷ xs) = test x || some test xs
 
 unfoldable pub isSetting : ℕ → ℕ → Bool
 isSetting n1 n2 = some (λ s. eqb n1 (s .0) && eqb n2 (s .1)) settings
@@ -31,11 +37,11 @@ twoPorts n1 = eqb n1 1
 
 -- O1 is 4 above two ports, which have one beam
 abbrev pub o1 : ℕ → ℕ
-o1 n1 = cond (twoPorts n1) 1 4
+o1 n1 = twoPorts n1 ⇒ 1 ∣ 4
 
 -- O2 is 4 if N2 > 1, else 1
 abbrev pub o2 : ℕ → ℕ
-o2 n2 = cond (ltb 1 n2) 4 1
+o2 n2 = ltb 1 n2 ⇒ 4 ∣ 1
 
 -- N1·O1 and N2·O2: the beams in each direction
 abbrev pub across : ℕ → ℕ
@@ -44,9 +50,6 @@ across n1 = n1 * o1 n1
 abbrev pub down : ℕ → ℕ
 down n2 = n2 * o2 n2
 
-abbrev pub setting : ℕ → ℕ → Setting
-setting n1 n2 = record { n1 = n1; n2 = n2; o1 = o1 n1; o2 = o2 n2 }
-
 -- a bit for each beam, and one byte for two ports
 unfoldable pub maskBytes : ℕ → ℕ → ℕ
-maskBytes n1 n2 = cond (twoPorts n1) 1 (across n1 * down n2 / 8)
+maskBytes n1 n2 = twoPorts n1 ⇒ 1 ∣ across n1 * down n2 / 8

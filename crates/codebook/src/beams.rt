@@ -15,9 +15,9 @@ ghost use Prim.Native.Nat.{_+_, _*_, _%_, _<_, _≤_};
 ghost use lib.Dec.{ltb};
 ghost use lib.ListN.{length, getD};
 ghost use Rattle.codebook.specs.Settings.{isSetting};
-ghost use Rattle.codebook.specs.Beams.{beam, halfLength, g, n, base, kTwo, kThree, kRows, fiveSix, sevenEight, offsets, moved};
+ghost use Rattle.codebook.specs.Columns.{beam, halfLength, g, n, base, kTwo, kThree, kRows, fiveSix, sevenEight, offsets, moved};
 ghost use Rattle.codebook.specs.Matrix.{blocks};
-ghost use Rattle.codebook.specs.Choice.{Near, InRange, accepted};
+ghost use Rattle.codebook.specs.Refusals.{Near, InRange, accepted};
 
 // The rows of k for two layers, in steps of (O1,O2): for N1 > N2 > 1, for N1 = N2, and for N2 = 1.
 const K_WIDE: [Beam; 4] = [

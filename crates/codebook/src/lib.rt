@@ -1,7 +1,6 @@
 // The Type I single-panel codebook: a report is judged, and what its columns are made of is given.
 ghost use mathlib.Core.Path.{_≡_};
-ghost use Rattle.codebook.specs.Refusals.{refusal};
-ghost use Rattle.codebook.specs.Choice.{judged};
+ghost use Rattle.codebook.specs.Refusals.{refusal, judged};
 
 mod beams;
 mod masks;

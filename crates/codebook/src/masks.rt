@@ -5,11 +5,10 @@ use crate::settings::down_of;
 ghost use mathlib.Core.Path.{_≡_};
 ghost use Prim.Native.Nat.{ℕ, _+_, _*_, _<_, _≤_};
 ghost use lib.ListN.{length, getD};
-ghost use Rattle.codebook.specs.Lists.{some};
-ghost use Rattle.codebook.specs.Settings.{maskBytes};
-ghost use Rattle.codebook.specs.Beams.{offsets};
+ghost use Rattle.codebook.specs.Settings.{some, maskBytes};
+ghost use Rattle.codebook.specs.Columns.{offsets};
 ghost use Rattle.codebook.specs.Masks.{bit, twoPortBit, isZero, barred};
-ghost use Rattle.codebook.specs.Choice.{InRange, accepted, bitsAt};
+ghost use Rattle.codebook.specs.Refusals.{InRange, accepted, bitsAt};
 
 // Bit k of a mask.
 fn bit_at(mask: &[u8], k: u32) -> u32

@@ -5,8 +5,7 @@ ghost use mathlib.Core.Bool.{true, false};
 ghost use Prim.Native.Nat.{_*_, _<_, _≤_};
 ghost use lib.ListN.{length};
 ghost use Rattle.codebook.specs.Settings.{isSetting};
-ghost use Rattle.codebook.specs.Beams.{modeTwo, halfLength, kTwo, kThree};
-ghost use Rattle.codebook.specs.Ranges.{halvesI11, i11Values, halvesI12, i12Values, i13Values, i2Values};
+ghost use Rattle.codebook.specs.Columns.{modeTwo, halfLength, kTwo, kThree, halvesI11, i11Values, halvesI12, i12Values, i13Values, i2Values};
 
 // Mode 2 acts on one and two layers, and not on two ports.
 pub fn is_mode_two(r: Report) -> bool

@@ -6,10 +6,8 @@ ghost use mathlib.Core.Bool.{true, _||_};
 ghost use mathlib.Core.List.{_++_};
 ghost use Prim.Native.Nat.{_≤_};
 ghost use lib.Dec.{eqb};
-ghost use Rattle.codebook.specs.Lists.{first};
 ghost use Rattle.codebook.specs.Settings.{isSetting};
-ghost use Rattle.codebook.specs.Refusals.{onSetting, onRank, onIndices};
-ghost use Rattle.codebook.specs.Choice.{refused};
+ghost use Rattle.codebook.specs.Refusals.{first, onSetting, onRank, onIndices, refused};
 
 // A refused report.
 pub fn refuse(k: u32) -> Choice

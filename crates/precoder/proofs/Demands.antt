@@ -11,12 +11,10 @@ use native.Mathlib.Omega.{arith}
 use lib.ListN.{length, drop, replicate, length-append}
 use lib.Seq.{drop-append-le}
 use Rattle.codebook.specs.declared.Report.{Report}
-use Rattle.codebook.specs.Lists.{first}
 use Rattle.codebook.specs.Settings.{ports}
 use Rattle.codebook.specs.Matrix.{Layer, layers, matrix}
 use Rattle.codebook.specs.Masks.{bit, beamBit, bitsRead}
-use Rattle.codebook.specs.Refusals.{onSetting, onRank, onIndices, onAnswer, refusals, refusal}
-use Rattle.codebook.specs.Choice.{InRange}
+use Rattle.codebook.specs.Refusals.{first, onSetting, onRank, onIndices, onAnswer, refusals, refusal, InRange}
 use Rattle.codebook.proofs.First.{None, FirstOf, first-of, first-none, none-zero}
 use Rattle.codebook.proofs.Bits.{all-ones, bits-one, beams-one}
 use Rattle.codebook.proofs.Layers.{layers-use, past, length-layers, length-matrix}

@@ -12,11 +12,9 @@ use Rattle.turn.specs.Phase.{phase}
 use Rattle.turn.specs.Column.{column}
 use Rattle.turn.proofs.Tests.{and-left, and-right, every, every-at}
 use Rattle.codebook.specs.declared.Report.{Report}
-use Rattle.codebook.specs.Lists.{join}
-use Rattle.codebook.specs.Ranks.{Bracket, _⨾_, ranks, quarters}
-use Rattle.codebook.specs.Beams.{beam, halfLength, beams}
-use Rattle.codebook.specs.Matrix.{Layer, fOf, tOf, addedOf, whole, quartered, layers, block, columnOf}
-use Rattle.codebook.specs.Choice.{InRange}
+use Rattle.codebook.specs.Columns.{Bracket, _⨾_, ranks, quarters, beam, halfLength, beams}
+use Rattle.codebook.specs.Matrix.{join, Layer, fOf, tOf, addedOf, whole, quartered, layers, block, columnOf}
+use Rattle.codebook.specs.Refusals.{InRange}
 use Rattle.codebook.proofs.Layers.{join-next, halved, length-rank, length-layers}
 use Rattle.precoder.specs.Digit.{bracket, four, layerOf}
 use Rattle.precoder.proofs.Columns.{column-phases}

@@ -14,9 +14,9 @@ use Rattle.codebook.specs.declared.Report.{Report}
 use Rattle.codebook.specs.declared.Beam.{Beam}
 use Rattle.codebook.specs.declared.Choice.{Choice}
 use Rattle.codebook.specs.Settings.{across, down, o1, o2}
-use Rattle.codebook.specs.Beams.{halfLength, beams}
+use Rattle.codebook.specs.Columns.{halfLength, beams}
 use Rattle.codebook.specs.Matrix.{Layer, fOf, tOf, addedOf, whole, quartered, blocks, rows, block, columnOf}
-use Rattle.codebook.specs.Choice.{InRange, accepted}
+use Rattle.codebook.specs.Refusals.{InRange, accepted}
 use Rattle.codebook.proofs.Known.{Known, known}
 use Rattle.codebook.proofs.Bits.{none, four-at, Within, beams-within}
 use Rattle.codebook.proofs.Layers.{column-sized}

@@ -4,8 +4,7 @@ use mathlib.Core.List.{List, [], _∷_}
 use Prim.Native.Nat.{ℕ, _+_, _/_, _%_}
 use lib.ListN.{getD, take}
 use Rattle.codebook.specs.declared.Report.{Report}
-use Rattle.codebook.specs.Ranks.{Bracket, _⨾_}
-use Rattle.codebook.specs.Beams.{beam, halfLength, beams}
+use Rattle.codebook.specs.Columns.{Bracket, _⨾_, beam, halfLength, beams}
 use Rattle.codebook.specs.Matrix.{Layer, fOf, tOf, addedOf, whole, quartered, blocks}
 
 -- the beam at a place, with as many co-phases as the report's columns have blocks

@@ -10,7 +10,7 @@ ghost use lib.ListN.{length, drop, getD};
 ghost use Rattle.turn.specs.Phase.{turn, phase};
 ghost use Rattle.codebook.specs.Settings.{ports, across};
 ghost use Rattle.codebook.specs.Matrix.{addedOf, matrix};
-ghost use Rattle.codebook.specs.Choice.{InRange, accepted};
+ghost use Rattle.codebook.specs.Refusals.{InRange, accepted};
 ghost use Rattle.precoder.specs.Digit.{onBeam, bracket, layerOf};
 ghost use Rattle.precoder.specs.Layer.{Reduced, Framed, Draws};
 

@@ -1,7 +1,7 @@
 // The precoder of a report, written into a lent buffer.
 use codebook::Report;
 ghost use mathlib.Core.Path.{_≡_};
-ghost use Rattle.codebook.specs.Choice.{InRange};
+ghost use Rattle.codebook.specs.Refusals.{InRange};
 ghost use Rattle.precoder.specs.Answer.{recordOf, Phases};
 
 mod fill;

@@ -5,11 +5,10 @@ use Prim.Native.Nat.{_*_, _<_, _≤_}
 use native.Mathlib.Nat.{mul-le-mul}
 use native.Mathlib.Omega.{arith}
 use borrow.Author.Needs.{needs}
-use Rattle.codebook.specs.Beams.{q}
-use Rattle.codebook.specs.Choice.{InRange, judged}
-use Rattle.codebook.specs.Lists.{first}
-use Rattle.codebook.specs.Masks.{barred}
 use Rattle.codebook.specs.Settings.{ports}
+use Rattle.codebook.specs.Columns.{q}
+use Rattle.codebook.specs.Masks.{barred}
+use Rattle.codebook.specs.Refusals.{InRange, judged, first}
 use Rattle.codebook.proofs.Known.{ports-few}
 use Rattle.codebook.proofs.Passed.{early, early-in-range, early-mask, refused-early, refused-barred, refused-room, not-refused, judged-refused}
 use Rattle.codebook.proofs.judge.Statement.{statement}

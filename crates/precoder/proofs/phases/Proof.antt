@@ -5,9 +5,8 @@ use borrow.Author.Needs.{needs}
 use Rattle.precoder.specs.Answer.{recordOf}
 use Rattle.codebook.proofs.Layers.{length-matrix}
 use Rattle.codebook.proofs.Passed.{judged-number, Accepted, accepted-of}
-use Rattle.codebook.specs.Beams.{q}
-use Rattle.codebook.specs.Choice.{judged}
-use Rattle.codebook.specs.Refusals.{refusal}
+use Rattle.codebook.specs.Columns.{q}
+use Rattle.codebook.specs.Refusals.{judged, refusal}
 use Rattle.codebook.specs.declared.Choice.{Choice}
 use Rattle.precoder.proofs.Answers.{record-refused, buffer-refused, buffer-accepted}
 use Rattle.precoder.proofs.phases.Statement.{statement}

@@ -4,7 +4,7 @@ use mathlib.Core.Bool.{true, false}
 use native.Mathlib.Omega.{arith}
 use borrow.Author.Needs.{needs}
 use borrow.Author.Tests.{lt-ltb, le-ltb, not-false, not-true}
-use Rattle.codebook.specs.Beams.{modeTwo, halfLength, base}
+use Rattle.codebook.specs.Columns.{modeTwo, halfLength, base}
 use Rattle.codebook.proofs.Bounds.{i11-few, i12-few, i2-few, q-few, g-some}
 use Rattle.codebook.proofs.beams.base_of.Statement.{statement}
 use Rattle.codebook.proofs.beams.base_of.Tie as tie

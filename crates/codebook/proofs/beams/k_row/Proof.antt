@@ -5,7 +5,7 @@ use Prim.Native.Nat.{ℕ, zero, suc}
 use native.Mathlib.Omega.{arith}
 use lib.ListN.{length, getD}
 use borrow.Author.Tests.{eq-eqb}
-use Rattle.codebook.specs.Beams.{beam, kThree, kRows}
+use Rattle.codebook.specs.Columns.{beam, kThree, kRows}
 use Rattle.codebook.proofs.Rows.{no-rows, rows-two, rows-three, i13-rows}
 use Rattle.codebook.proofs.beams.k_row.Statement.{statement}
 use Rattle.codebook.proofs.beams.k_row.Tie as tie

@@ -8,7 +8,7 @@ use lib.Dec.{eqb}
 use lib.ListN.{length, getD, List·getD-append}
 use borrow.Author.Needs.{needs}
 use borrow.Author.Tests.{eq-eqb, ne-eqb}
-use Rattle.codebook.specs.Beams.{beam, kThree}
+use Rattle.codebook.specs.Columns.{beam, kThree}
 use Rattle.codebook.specs.declared.Beam.{Beam}
 use Rattle.codebook.proofs.Rows.{three-rows-few}
 use Rattle.codebook.proofs.beams.k_three.Statement.{statement}

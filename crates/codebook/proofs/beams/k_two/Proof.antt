@@ -8,7 +8,7 @@ use lib.Dec.{eqb}
 use lib.ListN.{length, getD, List·getD-append}
 use borrow.Author.Needs.{needs}
 use borrow.Author.Tests.{eq-eqb, ne-eqb, lt-ltb, le-ltb}
-use Rattle.codebook.specs.Beams.{beam, q, kTwo}
+use Rattle.codebook.specs.Columns.{beam, q, kTwo}
 use Rattle.codebook.specs.declared.Beam.{Beam}
 use Rattle.codebook.proofs.Known.{known}
 use Rattle.codebook.proofs.Rows.{wide, two-rows-few}

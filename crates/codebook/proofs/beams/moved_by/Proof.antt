@@ -1,6 +1,6 @@
 -- `codebook::beams::moved_by` meets its contract: both numbers are moved alike. Assumes nothing.
 use borrow.Author.Needs.{needs}
-use Rattle.codebook.specs.Beams.{moved}
+use Rattle.codebook.specs.Columns.{moved}
 use Rattle.codebook.proofs.Known.{known, o1-few, o2-few}
 use Rattle.codebook.proofs.beams.moved_by.Statement.{statement}
 use Rattle.codebook.proofs.beams.moved_by.Tie as tie

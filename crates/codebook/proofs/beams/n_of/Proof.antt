@@ -1,7 +1,7 @@
 -- `codebook::beams::n_of` meets its contract: each way out has its case. Assumes nothing.
 use mathlib.Core.Path.{sym, _∙_}
 use borrow.Author.Needs.{needs}
-use Rattle.codebook.specs.Beams.{n}
+use Rattle.codebook.specs.Columns.{n}
 use Rattle.codebook.proofs.Bounds.{g-some}
 use Rattle.codebook.proofs.beams.n_of.Statement.{statement}
 use Rattle.codebook.proofs.beams.n_of.Tie as tie

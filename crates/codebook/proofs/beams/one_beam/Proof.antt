@@ -1,8 +1,8 @@
 -- `codebook::beams::one_beam` meets its contract: its beam is B. Assumes nothing.
 use lib.Dec.{lit≤}
 use borrow.Author.Needs.{needs}
-use Rattle.codebook.specs.Beams.{beams}
-use Rattle.codebook.specs.Choice.{accepted}
+use Rattle.codebook.specs.Columns.{beams}
+use Rattle.codebook.specs.Refusals.{accepted}
 use Rattle.codebook.proofs.Bounds.{base-near}
 use Rattle.codebook.proofs.beams.one_beam.Statement.{statement}
 use Rattle.codebook.proofs.beams.one_beam.Tie as tie

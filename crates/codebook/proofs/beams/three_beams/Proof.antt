@@ -4,8 +4,8 @@ use mathlib.Core.Bool.{Bool, true, false, cond}
 use mathlib.Core.List.{[], _∷_}
 use lib.Dec.{ltb, lit≤}
 use borrow.Author.Needs.{needs}
-use Rattle.codebook.specs.Beams.{beam, beams}
-use Rattle.codebook.specs.Choice.{accepted}
+use Rattle.codebook.specs.Columns.{beam, beams}
+use Rattle.codebook.specs.Refusals.{accepted}
 use Rattle.codebook.proofs.Bounds.{base-near, near-either}
 use Rattle.codebook.proofs.beams.three_beams.Statement.{statement}
 use Rattle.codebook.proofs.beams.three_beams.Tie as tie

@@ -1,8 +1,8 @@
 -- `codebook::beams::two_beams` meets its contract: its beams are B and B moved by k. Assumes nothing.
 use lib.Dec.{lit≤}
 use borrow.Author.Needs.{needs}
-use Rattle.codebook.specs.Beams.{beams}
-use Rattle.codebook.specs.Choice.{accepted}
+use Rattle.codebook.specs.Columns.{beams}
+use Rattle.codebook.specs.Refusals.{accepted}
 use Rattle.codebook.proofs.Bounds.{base-near}
 use Rattle.codebook.proofs.beams.two_beams.Statement.{statement}
 use Rattle.codebook.proofs.beams.two_beams.Tie as tie

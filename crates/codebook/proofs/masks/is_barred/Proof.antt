@@ -5,7 +5,7 @@ use native.Mathlib.Omega.{arith}
 use lib.ListN.{length, getD}
 use borrow.Author.Needs.{needs}
 use borrow.Author.Tests.{eq-eqb}
-use Rattle.codebook.specs.Lists.{some}
+use Rattle.codebook.specs.Settings.{some}
 use Rattle.codebook.specs.Masks.{bitsRead, isZero, barred}
 use Rattle.codebook.proofs.Bits.{offsets-few, accepted-bit, accepted-bits}
 use Rattle.codebook.proofs.Booleans.{or-nothing}

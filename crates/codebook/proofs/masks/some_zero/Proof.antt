@@ -5,7 +5,7 @@ use Prim.Native.Nat.{_+_, _-_, _*_, _<_, _≤_}
 use native.Mathlib.Omega.{arith}
 use lib.ListN.{getD}
 use borrow.Author.Needs.{needs}
-use Rattle.codebook.specs.Beams.{n}
+use Rattle.codebook.specs.Columns.{n}
 use Rattle.codebook.proofs.Bits.{zeroAmong, none-among, not-among, among, is-zero, is-one}
 use Rattle.codebook.proofs.masks.some_zero.Statement.{statement}
 use Rattle.codebook.proofs.masks.some_zero.Tie as tie

@@ -2,7 +2,7 @@
 use mathlib.Core.Path.{sym, _∙_}
 use borrow.Author.Needs.{needs}
 use borrow.Author.Tests.{eq-eqb, ne-eqb, le-leb, lt-leb}
-use Rattle.codebook.specs.Ranges.{halvesI11}
+use Rattle.codebook.specs.Columns.{halvesI11}
 use Rattle.codebook.proofs.ranges.halves_i11.Statement.{statement}
 use Rattle.codebook.proofs.ranges.halves_i11.Tie as tie
 

@@ -5,7 +5,7 @@ use native.Mathlib.Omega.{arith}
 use lib.Dec.{ltb}
 use borrow.Author.Needs.{needs}
 use borrow.Author.Tests.{le-leb, lt-leb, lt-ltb, le-ltb}
-use Rattle.codebook.specs.Ranges.{halvesI12}
+use Rattle.codebook.specs.Columns.{halvesI12}
 use Rattle.codebook.proofs.Booleans.{or-nothing}
 use Rattle.codebook.proofs.Bounds.{mode-two-few}
 use Rattle.codebook.proofs.ranges.halves_i12.Statement.{statement}

@@ -1,7 +1,7 @@
 -- `codebook::ranges::i11_values` meets its contract: both ways out are the two cases of the definition. Assumes nothing.
 use mathlib.Core.Path.{sym, _∙_}
 use borrow.Author.Needs.{needs}
-use Rattle.codebook.specs.Ranges.{i11Values}
+use Rattle.codebook.specs.Columns.{i11Values}
 use Rattle.codebook.proofs.Known.{known}
 use Rattle.codebook.proofs.ranges.i11_values.Statement.{statement}
 use Rattle.codebook.proofs.ranges.i11_values.Tie as tie

@@ -5,8 +5,7 @@ use Prim.Native.Nat.{_≤_}
 use native.Mathlib.Omega.{arith}
 use borrow.Author.Needs.{needs}
 use borrow.Author.Tests.{eq-eqb, ne-eqb, le-leb}
-use Rattle.codebook.specs.Beams.{halfLength}
-use Rattle.codebook.specs.Ranges.{i13Values}
+use Rattle.codebook.specs.Columns.{halfLength, i13Values}
 use Rattle.codebook.proofs.Rows.{no-rows, rows-two, rows-three, few-antennas}
 use Rattle.codebook.proofs.ranges.i13_values.Statement.{statement}
 use Rattle.codebook.proofs.ranges.i13_values.Tie as tie

@@ -2,7 +2,7 @@
 use mathlib.Core.Path.{sym, _∙_}
 use borrow.Author.Needs.{needs}
 use borrow.Author.Tests.{eq-eqb, ne-eqb}
-use Rattle.codebook.specs.Ranges.{i2Values}
+use Rattle.codebook.specs.Columns.{i2Values}
 use Rattle.codebook.proofs.ranges.i2_values.Statement.{statement}
 use Rattle.codebook.proofs.ranges.i2_values.Tie as tie
 

@@ -1,7 +1,7 @@
 -- `codebook::ranges::is_half_length` meets its contract: each way out has its case. Assumes nothing.
 use borrow.Author.Needs.{needs}
 use borrow.Author.Tests.{le-leb, lt-leb}
-use Rattle.codebook.specs.Beams.{halfLength}
+use Rattle.codebook.specs.Columns.{halfLength}
 use Rattle.codebook.proofs.ranges.is_half_length.Statement.{statement}
 use Rattle.codebook.proofs.ranges.is_half_length.Tie as tie
 

@@ -1,6 +1,6 @@
 -- `codebook::ranges::is_mode_two` meets its contract: each way out has its case. Assumes nothing.
 use borrow.Author.Tests.{eq-eqb, ne-eqb, le-leb, lt-leb}
-use Rattle.codebook.specs.Beams.{modeTwo}
+use Rattle.codebook.specs.Columns.{modeTwo}
 use Rattle.codebook.proofs.ranges.is_mode_two.Statement.{statement}
 use Rattle.codebook.proofs.ranges.is_mode_two.Tie as tie
 

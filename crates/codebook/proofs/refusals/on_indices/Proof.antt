@@ -4,9 +4,8 @@ use mathlib.Core.Bool.{false}
 use lib.Dec.{leb}
 use borrow.Author.Needs.{needs}
 use borrow.Author.Tests.{le-leb, lt-leb}
-use Rattle.codebook.specs.Lists.{first}
-use Rattle.codebook.specs.Ranges.{i11Values, i12Values, i13Values, i2Values}
-use Rattle.codebook.specs.Refusals.{onIndices}
+use Rattle.codebook.specs.Columns.{i11Values, i12Values, i13Values, i2Values}
+use Rattle.codebook.specs.Refusals.{first, onIndices}
 use Rattle.codebook.proofs.refusals.on_indices.Statement.{statement}
 use Rattle.codebook.proofs.refusals.on_indices.Tie as tie
 

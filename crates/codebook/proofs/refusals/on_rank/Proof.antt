@@ -4,10 +4,9 @@ use mathlib.Core.Bool.{false, _||_}
 use lib.Dec.{eqb, ltb}
 use borrow.Author.Needs.{needs}
 use borrow.Author.Tests.{eq-eqb, ne-eqb, lt-ltb, le-ltb}
-use Rattle.codebook.specs.Lists.{first}
-use Rattle.codebook.specs.Masks.{rankBarred}
-use Rattle.codebook.specs.Refusals.{onRank}
 use Rattle.codebook.specs.Settings.{ports}
+use Rattle.codebook.specs.Masks.{rankBarred}
+use Rattle.codebook.specs.Refusals.{first, onRank}
 use Rattle.codebook.proofs.refusals.on_rank.Statement.{statement}
 use Rattle.codebook.proofs.refusals.on_rank.Tie as tie
 

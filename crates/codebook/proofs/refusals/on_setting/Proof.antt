@@ -4,9 +4,8 @@ use mathlib.Core.Bool.{true, _||_}
 use lib.Dec.{eqb}
 use borrow.Author.Needs.{needs}
 use borrow.Author.Tests.{eq-eqb, ne-eqb, not-false, not-true}
-use Rattle.codebook.specs.Lists.{first}
-use Rattle.codebook.specs.Refusals.{onSetting}
 use Rattle.codebook.specs.Settings.{isSetting}
+use Rattle.codebook.specs.Refusals.{first, onSetting}
 use Rattle.codebook.proofs.refusals.on_setting.Statement.{statement}
 use Rattle.codebook.proofs.refusals.on_setting.Tie as tie
 

@@ -7,8 +7,7 @@ use lib.Dec.{eqb}
 use lib.ListN.{getD}
 use borrow.Author.Needs.{needs}
 use Rattle.turn.proofs.Tests.{every, every-at}
-use Rattle.codebook.specs.Lists.{some}
-use Rattle.codebook.specs.Settings.{settings, isSetting}
+use Rattle.codebook.specs.Settings.{some, settings, isSetting}
 use Rattle.codebook.proofs.Booleans.{same-truth, is-false}
 use Rattle.codebook.proofs.Known.{known}
 use Rattle.codebook.proofs.settings.is_setting.Statement.{statement}

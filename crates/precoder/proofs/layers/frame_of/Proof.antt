@@ -7,7 +7,7 @@ use borrow.Author.Needs.{needs}
 use Rattle.turn.specs.Phase.{turn, phase, quarter}
 use Rattle.codebook.specs.declared.Choice.{Choice}
 use Rattle.codebook.specs.Matrix.{blocks, rows}
-use Rattle.codebook.specs.Choice.{accepted}
+use Rattle.codebook.specs.Refusals.{accepted}
 use Rattle.codebook.proofs.Known.{Known, known}
 use Rattle.codebook.proofs.Layers.{column-sized}
 use Rattle.precoder.proofs.Framing.{down-across, rows-shared, few-blocks}

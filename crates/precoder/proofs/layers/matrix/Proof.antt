@@ -9,10 +9,9 @@ use borrow.Author.Needs.{needs}
 use borrow.Rule.Slice.PartMut.{same-len-mid}
 use lib.ListN.{length, take, drop, length-append, length-take, length-drop, List·getD-map}
 use lib.Seq.{take-all}
-use Rattle.codebook.specs.Lists.{join}
 use Rattle.codebook.specs.Settings.{ports}
-use Rattle.codebook.specs.Ranks.{ranks}
-use Rattle.codebook.specs.Matrix.{matrix, layers}
+use Rattle.codebook.specs.Columns.{ranks}
+use Rattle.codebook.specs.Matrix.{join, matrix, layers}
 use Rattle.codebook.proofs.Known.{Known, known}
 use Rattle.codebook.proofs.Layers.{length-layers}
 use Rattle.precoder.proofs.Written.{length-front, appended}
