@@ -25,6 +25,13 @@ pub record Drawn (y : Layer) : Type 0 where
   pub first : getD (y .co) 0 0 ≡ 0
   pub co : Reduced (y .co)
 
+-- its column, and how many entries that has
+abbrev pub columnIn : Layer → List ℕ
+columnIn y = column (take (y .blocks) (y .co)) (grid (y .rows) (y .across) (y .columns) (y .down))
+
+abbrev pub size : Layer → ℕ
+size y = y .blocks * (y .rows * y .columns)
+
 -- what the layers of a report have in common
 pub record Framed (r : Report) (s : Frame) : Type 0 where
   pub rows : s .rows ≡ rows r
@@ -37,5 +44,5 @@ pub record Framed (r : Report) (s : Frame) : Type 0 where
 -- the definition's layer x of a report: an entry for each port, and its column
 pub record Draws (r : Report) (x : Planned) (y : Layer) : Type 0 where
   pub drawn : Drawn y
-  pub size : y .blocks * (y .rows * y .columns) ≡ ports (r .n1) (r .n2)
-  pub same : column (take (y .blocks) (y .co)) (grid (y .rows) (y .across) (y .columns) (y .down)) ≡ columnOf r x
+  pub size : size y ≡ ports (r .n1) (r .n2)
+  pub same : columnIn y ≡ columnOf r x

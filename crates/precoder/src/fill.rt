@@ -5,7 +5,7 @@ ghost use Prim.Native.Nat.{_+_, _*_, _<_, _≤_};
 ghost use lib.ListN.{length, take, drop, getD};
 ghost use Rattle.turn.specs.Phase.{turn, phase};
 ghost use Rattle.turn.specs.Column.{steps, grid, column};
-ghost use Rattle.precoder.specs.Layer.{Reduced, Drawn};
+ghost use Rattle.precoder.specs.Layer.{Reduced, Drawn, columnIn, size};
 
 // A layer as it is written: `blocks` blocks of `rows` by `columns` entries, `across` more from row to row and `down`
 // more from entry to entry; to block q the co-phase `co[q]` is added.
@@ -61,7 +61,8 @@ fn other_rows(out: &mut [u8], w: usize, n: usize, step: u8)
 // One block more: the first w entries, turned by c, from place `at` on.
 fn block(out: &mut [u8], w: usize, at: usize, c: u8)
     requires { ⌜ (w ≤ at) × (at + w ≤ length (now out)) × (c < turn) × Reduced (take w (now out)) ⌝ }
-    ensures { λ _. ⌜ now (out .exit) ≡ take at (now (out .entry)) ++ column (c ∷ []) (take w (now (out .entry))) ++ drop (at + w) (now (out .entry)) ⌝ }
+    ensures { λ _. ⌜ now (out .exit)
+        ≡ take at (now (out .entry)) ++ column (c ∷ []) (take w (now (out .entry))) ++ drop (at + w) (now (out .entry)) ⌝ }
 {
     let mut i = 0;
     while i < w {
@@ -87,8 +88,8 @@ fn other_blocks(out: &mut [u8], w: usize, n: usize, co: [u8; 4])
 
 // A whole layer: its column, and what was lent after it.
 pub fn fill(out: &mut [u8], y: Layer)
-    requires { ⌜ Drawn y × (y .blocks * (y .rows * y .columns) ≤ length (now out)) ⌝ }
-    ensures { λ _. ⌜ now (out .exit) ≡ column (take (y .blocks) (y .co)) (grid (y .rows) (y .across) (y .columns) (y .down)) ++ drop (y .blocks * (y .rows * y .columns)) (now (out .entry)) ⌝ }
+    requires { ⌜ Drawn y × (size y ≤ length (now out)) ⌝ }
+    ensures { λ _. ⌜ now (out .exit) ≡ columnIn y ++ drop (size y) (now (out .entry)) ⌝ }
 {
     let w = y.rows * y.columns;
     first_row(out, y.columns, y.down);
