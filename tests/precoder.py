@@ -41,7 +41,7 @@ What is sent
   order      all pairs of faults for every setting, mode and rank, and all sets of two or more faults for every setting
   random     requests drawn from legal numbers, bounds and extremes, answered by the whole model
 On a refusal the record's other numbers are 0 and the buffer is as lent. Bytes around the buffer and the mask, and the mask,
-never change.
+never change. No call uses more than 1,024 bytes of stack.
 """
 
 import array
@@ -376,9 +376,9 @@ ALL_REPORTS, ALL_PHASES = 78_892, 6_387_360
 
 # ---- Requests and answers, as batch.c reads and writes them ------------------------------------------------------------
 
-HEAD, TAIL, RECORD = struct.Struct('<8IBH'), struct.Struct('<HB'), struct.Struct('<4I')
+HEAD, TAIL, RECORD, STACK = struct.Struct('<8IBH'), struct.Struct('<HB'), struct.Struct('<4I'), struct.Struct('<I')
 LENT = [bytes((fill + 37 * i) % 256 for i in range(256)) for fill in range(256)]
-MOST_LINES = 20
+MOST_LINES, MOST_STACK = 20, 1024
 
 
 def as_lent(fill, length):
@@ -455,6 +455,7 @@ class Tests:
 
     def run(self, command):
         """Sends all requests to one process and compares all answers."""
+        stack = self.begin('no call uses more than 1,024 bytes of stack')
         test = self.begin('the harness answers every request and ends')
         try:
             done = subprocess.run(command, input=self.requests, stdout=subprocess.PIPE, timeout=900)
@@ -463,8 +464,14 @@ class Tests:
             came, status = late.stdout or b'', 'none after 900 seconds'
         except OSError as error:
             came, status = b'', error
-        if status != 0 or len(came) != len(self.answers):
-            self.fail(test, f'exit status {status}, {len(came)} bytes of {len(self.answers)}')
+        whole = len(self.answers) + STACK.size
+        if status != 0 or len(came) != whole:
+            self.fail(test, f'exit status {status}, {len(came)} bytes of {whole}')
+        came, deepest = came[:len(self.answers)], came[len(self.answers):]
+        deepest = STACK.unpack(deepest)[0] if len(deepest) == STACK.size else None
+        if deepest is None or deepest > MOST_STACK:
+            self.fail(stack, f'{deepest} bytes')
+        print(f'{deepest} bytes of stack at most')
         if came != self.answers:
             ends = self.answer_at[1:] + array.array('L', [len(self.answers)])
             for k, (start, end) in enumerate(zip(self.answer_at, ends)):

@@ -5,6 +5,7 @@
 // (one byte). The lent buffer's byte i is the first fill value plus 37 i, modulo 256.
 // An answer: the record (four numbers of 32 bits: refusal, ports, layers, scale), one byte that is 1 if all guards stand
 // and the beam mask is as lent, else 0, and the buffer's bytes after the call.
+// After the last answer: how many bytes of stack the deepest call has used (32 bits).
 //
 // The exit status is 0 if the input ends after a whole request, 1 if it ends inside one, 2 if reading or writing fails.
 // Freestanding: no headers, and of the C library only read, write and _exit.
@@ -90,10 +91,28 @@ static int guards_stand(const loan *l) {
     return stand;
 }
 
+// The stack below a call is painted before it, and looked at after it. Both functions have their frame where the call has
+// its own, so that what stands nearest to the caller, at most 128 bytes, may go unseen; it is added.
+enum { STACK = 8192, UNSEEN = 128, PAINT = 0xa5 };
+
+static __attribute__((noinline)) void paint(void) {
+    volatile uint8_t below[STACK];
+    for (size_t i = 0; i < STACK; i++) below[i] = PAINT;
+}
+
+static __attribute__((noinline)) uint32_t stack_used(void) {
+    volatile uint8_t below[STACK];
+    size_t kept = 0;
+    __asm__ volatile("" : "=m"(below));
+    while (kept < STACK && below[kept] == PAINT) kept++;
+    return (uint32_t)(STACK - kept + UNSEEN);
+}
+
 static loan beams, buffer;
 static uint8_t beams_as_lent[MOST];
 
 int main(void) {
+    uint32_t deepest = 0;
     for (size_t count = 0;; count++) {
         int first = get();
         if (first < 0) break;
@@ -108,7 +127,10 @@ int main(void) {
         uint32_t fill = number(1);
         for (size_t i = 0; i < buffer.len; i++) buffer.at[i] = (uint8_t)(fill + 37 * i);
 
+        paint();
         aspenflick_record record = aspenflick_phases(report, beams.at, beams.len, ranks, buffer.at, buffer.len);
+        uint32_t used = stack_used();
+        if (used > deepest) deepest = used;
 
         int intact = guards_stand(&beams) & guards_stand(&buffer);
         for (size_t i = 0; i < beams.len; i++) intact &= beams.at[i] == beams_as_lent[i];
@@ -119,6 +141,7 @@ int main(void) {
         put((uint8_t)intact);
         for (size_t i = 0; i < buffer.len; i++) put(buffer.at[i]);
     }
+    put_number(deepest);
     flush();
     return 0;
 }
