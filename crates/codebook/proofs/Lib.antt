@@ -4,6 +4,7 @@ pub mod First
 pub mod Known
 pub mod Rows
 pub mod Bounds
+pub mod Chosen
 pub mod Bits
 pub mod Layers
 pub mod Passed

@@ -59,8 +59,11 @@ abbrev pub refused : ℕ → Choice
 refused k = record { refusal = k; blocks = 0; n = 0; l = 0 ∷ 0 ∷ 0 ∷ 0 ∷ []; m = 0 ∷ 0 ∷ 0 ∷ 0 ∷ [] }
 
 -- an accepted one: what its columns are made of
+abbrev pub ofBeams : Report → List Beam → Choice
+ofBeams r xs = record { refusal = 0; blocks = blocks r; n = n r; l = lOf xs; m = mOf xs }
+
 unfoldable pub accepted : Report → Choice
-accepted r = record { refusal = 0; blocks = blocks r; n = n r; l = lOf (beams r); m = mOf (beams r) }
+accepted r = ofBeams r (beams r)
 
 -- a report by the number of its refusal
 abbrev pub judged : Report → ℕ → Choice

@@ -15,9 +15,12 @@ ghost use Prim.Native.Nat.{_+_, _*_, _%_, _<_, _≤_};
 ghost use lib.Dec.{ltb};
 ghost use lib.ListN.{length, getD};
 ghost use Rattle.codebook.specs.Settings.{isSetting};
-ghost use Rattle.codebook.specs.Columns.{beam, halfLength, g, n, base, kTwo, kThree, kRows, fiveSix, sevenEight, offsets, moved};
+ghost use Rattle.codebook.specs.Columns.{beam, halfLength, g, n, base, kTwo, kThree, kRows, moved};
 ghost use Rattle.codebook.specs.Matrix.{blocks};
-ghost use Rattle.codebook.specs.Refusals.{Near, InRange, accepted};
+ghost use Rattle.codebook.specs.Refusals.{Near, InRange, ofBeams, accepted};
+
+// No step, and no beam.
+const NONE: Beam = Beam { l: 0, m: 0 };
 
 // The rows of k for two layers, in steps of (O1,O2): for N1 > N2 > 1, for N1 = N2, and for N2 = 1.
 const K_WIDE: [Beam; 4] = [
@@ -89,7 +92,7 @@ fn k_row(r: Report) -> Beam
     ensures { λ k. ⌜ k ≡ getD (kRows r) (r .i13) (beam 0 0) ⌝ }
 {
     if r.n1 == 1 {
-        return Beam { l: 0, m: 0 };
+        return NONE;
     }
     if r.v == 2 {
         return k_two(r.n1, r.n2, r.i13);
@@ -175,66 +178,11 @@ fn step_for(n2: u32, wide: Beam, line: Beam) -> Beam
     if 1 < n2 { wide } else { line }
 }
 
-// Where B is the only beam.
-fn one_beam(r: Report, x: Beam) -> Choice
-    requires { ⌜ InRange r × (x ≡ base r) × (offsets r ≡ beam 0 0 ∷ []) ⌝ }
-    ensures { λ c. ⌜ c ≡ accepted r ⌝ }
+// What the columns are made of, given four beams.
+fn chosen(r: Report, a: Beam, b: Beam, c: Beam, d: Beam) -> Choice
+    requires { ⌜ isSetting (r .n1) (r .n2) ≡ true ⌝ }
+    ensures { λ y. ⌜ y ≡ ofBeams r (a ∷ b ∷ c ∷ d ∷ []) ⌝ }
 {
-    let a = moved_by(r, x, Beam { l: 0, m: 0 });
-    Choice {
-        refusal: 0,
-        blocks: blocks_of(r),
-        n: n_of(r),
-        l: [a.l, 0, 0, 0],
-        m: [a.m, 0, 0, 0],
-    }
-}
-
-// B, and B plus the row of k.
-fn two_beams(r: Report, x: Beam, k: Beam) -> Choice
-    requires { ⌜ InRange r × (x ≡ base r) × Near k × (offsets r ≡ beam 0 0 ∷ k ∷ []) ⌝ }
-    ensures { λ c. ⌜ c ≡ accepted r ⌝ }
-{
-    let a = moved_by(r, x, Beam { l: 0, m: 0 });
-    let b = moved_by(r, x, k);
-    Choice {
-        refusal: 0,
-        blocks: blocks_of(r),
-        n: n_of(r),
-        l: [a.l, b.l, 0, 0],
-        m: [a.m, b.m, 0, 0],
-    }
-}
-
-// v = 5 and 6.
-fn three_beams(r: Report, x: Beam) -> Choice
-    requires { ⌜ InRange r × (x ≡ base r) × (offsets r ≡ fiveSix (r .n2)) ⌝ }
-    ensures { λ c. ⌜ c ≡ accepted r ⌝ }
-{
-    let a = moved_by(r, x, Beam { l: 0, m: 0 });
-    let b = moved_by(r, x, Beam { l: 1, m: 0 });
-    let k = step_for(r.n2, Beam { l: 1, m: 1 }, Beam { l: 2, m: 0 });
-    let c = moved_by(r, x, k);
-    Choice {
-        refusal: 0,
-        blocks: blocks_of(r),
-        n: n_of(r),
-        l: [a.l, b.l, c.l, 0],
-        m: [a.m, b.m, c.m, 0],
-    }
-}
-
-// v = 7 and 8.
-fn four_beams(r: Report, x: Beam) -> Choice
-    requires { ⌜ InRange r × (x ≡ base r) × (offsets r ≡ sevenEight (r .n2)) ⌝ }
-    ensures { λ c. ⌜ c ≡ accepted r ⌝ }
-{
-    let a = moved_by(r, x, Beam { l: 0, m: 0 });
-    let b = moved_by(r, x, Beam { l: 1, m: 0 });
-    let k = step_for(r.n2, Beam { l: 0, m: 1 }, Beam { l: 2, m: 0 });
-    let c = moved_by(r, x, k);
-    let j = step_for(r.n2, Beam { l: 1, m: 1 }, Beam { l: 3, m: 0 });
-    let d = moved_by(r, x, j);
     Choice {
         refusal: 0,
         blocks: blocks_of(r),
@@ -244,24 +192,41 @@ fn four_beams(r: Report, x: Beam) -> Choice
     }
 }
 
+// v = 5 to 8: x is B before it is reduced, and a afterwards.
+fn choose_many(r: Report, x: Beam, a: Beam) -> Choice
+    requires { ⌜ InRange r × (x ≡ base r) × (a ≡ moved r x (beam 0 0)) × (5 ≤ r .v) ⌝ }
+    ensures { λ c. ⌜ c ≡ accepted r ⌝ }
+{
+    let b = moved_by(r, x, Beam { l: 1, m: 0 });
+    if r.v <= 6 {
+        let k = step_for(r.n2, Beam { l: 1, m: 1 }, Beam { l: 2, m: 0 });
+        let c = moved_by(r, x, k);
+        return chosen(r, a, b, c, NONE);
+    }
+    let k = step_for(r.n2, Beam { l: 0, m: 1 }, Beam { l: 2, m: 0 });
+    let c = moved_by(r, x, k);
+    let j = step_for(r.n2, Beam { l: 1, m: 1 }, Beam { l: 3, m: 0 });
+    let d = moved_by(r, x, j);
+    chosen(r, a, b, c, d)
+}
+
 // What the columns of a report are made of.
 pub fn choose(r: Report) -> Choice
     requires { ⌜ InRange r ⌝ }
     ensures { λ c. ⌜ c ≡ accepted r ⌝ }
 {
     let x = base_of(r);
-    if 7 <= r.v {
-        return four_beams(r, x);
-    }
+    let a = moved_by(r, x, NONE);
     if 5 <= r.v {
-        return three_beams(r, x);
+        return choose_many(r, x, a);
     }
     if r.v == 1 {
-        return one_beam(r, x);
+        return chosen(r, a, NONE, NONE, NONE);
     }
     if is_half_length(r) {
-        return one_beam(r, x);
+        return chosen(r, a, NONE, NONE, NONE);
     }
     let k = k_row(r);
-    two_beams(r, x, k)
+    let b = moved_by(r, x, k);
+    chosen(r, a, b, NONE, NONE)
 }

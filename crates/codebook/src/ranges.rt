@@ -5,7 +5,8 @@ ghost use mathlib.Core.Bool.{true, false};
 ghost use Prim.Native.Nat.{_*_, _<_, _≤_};
 ghost use lib.ListN.{length};
 ghost use Rattle.codebook.specs.Settings.{isSetting};
-ghost use Rattle.codebook.specs.Columns.{modeTwo, halfLength, kTwo, kThree, halvesI11, i11Values, halvesI12, i12Values, i13Values, i2Values};
+ghost use Rattle.codebook.specs.Columns.{modeTwo, halfLength, kTwo, kThree};
+ghost use Rattle.codebook.specs.Columns.{halvesI11, i11Values, halvesI12, i12Values, i13Values, i2Values};
 
 // Mode 2 acts on one and two layers, and not on two ports.
 pub fn is_mode_two(r: Report) -> bool
@@ -34,6 +35,7 @@ pub fn is_half_length(r: Report) -> bool
     16 <= crate::settings::ports_of(r.n1, r.n2)
 }
 
+// Whether i11 has half of its values.
 fn halves_i11(r: Report) -> bool
     requires { ⌜ isSetting (r .n1) (r .n2) ≡ true ⌝ }
     ensures { λ t. ⌜ t ≡ halvesI11 r ⌝ }
@@ -53,6 +55,7 @@ fn halves_i11(r: Report) -> bool
     r.n2 == 1
 }
 
+// Whether i12 has half of its values.
 fn halves_i12(r: Report) -> bool
     ensures { λ t. ⌜ t ≡ halvesI12 r ⌝ }
 {
@@ -68,6 +71,7 @@ fn halves_i12(r: Report) -> bool
     r.n2 == 2
 }
 
+// The values of i11.
 pub fn i11_values(r: Report) -> u32
     requires { ⌜ isSetting (r .n1) (r .n2) ≡ true ⌝ }
     ensures { λ n. ⌜ n ≡ i11Values r ⌝ }
@@ -76,6 +80,7 @@ pub fn i11_values(r: Report) -> u32
     if halves_i11(r) { w / 2 } else { w }
 }
 
+// The values of i12.
 pub fn i12_values(r: Report) -> u32
     requires { ⌜ isSetting (r .n1) (r .n2) ≡ true ⌝ }
     ensures { λ n. ⌜ n ≡ i12Values r ⌝ }
@@ -84,7 +89,7 @@ pub fn i12_values(r: Report) -> u32
     if halves_i12(r) { w / 2 } else { w }
 }
 
-// The rows of k at v = 2.
+// How many rows of k there are at v = 2: two at (2,1), and else four.
 fn two_rows(n1: u32, n2: u32) -> u32
     requires { ⌜ (isSetting n1 n2 ≡ true) × (n1 ≡ 1 → ⊥) ⌝ }
     ensures { λ n. ⌜ n ≡ length (kTwo n1 n2) ⌝ }
@@ -92,7 +97,7 @@ fn two_rows(n1: u32, n2: u32) -> u32
     if n1 * n2 == 2 { 2 } else { 4 }
 }
 
-// The rows of k at v = 3 and 4, for P < 16.
+// How many there are at v = 3 and 4 for P < 16: one at four ports, three at eight and four at twelve.
 fn three_rows(n1: u32, n2: u32) -> u32
     requires { ⌜ (isSetting n1 n2 ≡ true) × (n1 ≡ 1 → ⊥) × (n1 * n2 < 8) ⌝ }
     ensures { λ n. ⌜ n ≡ length (kThree n1 n2) ⌝ }
@@ -104,6 +109,7 @@ fn three_rows(n1: u32, n2: u32) -> u32
     if w == 4 { 3 } else { 4 }
 }
 
+// The values of i13: as many as rows of k, and four for half-length beams.
 pub fn i13_values(r: Report) -> u32
     requires { ⌜ (isSetting (r .n1) (r .n2) ≡ true) × (1 ≤ r .v) ⌝ }
     ensures { λ n. ⌜ n ≡ i13Values r ⌝ }
@@ -126,6 +132,7 @@ pub fn i13_values(r: Report) -> u32
     three_rows(r.n1, r.n2)
 }
 
+// The values of i2.
 pub fn i2_values(r: Report) -> u32
     ensures { λ n. ⌜ n ≡ i2Values r ⌝ }
 {

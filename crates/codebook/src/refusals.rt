@@ -9,7 +9,7 @@ ghost use lib.Dec.{eqb};
 ghost use Rattle.codebook.specs.Settings.{isSetting};
 ghost use Rattle.codebook.specs.Refusals.{first, onSetting, onRank, onIndices, refused};
 
-// A refused report.
+// A refused report: its number, and zeros.
 pub fn refuse(k: u32) -> Choice
     ensures { λ c. ⌜ c ≡ refused k ⌝ }
 {
@@ -22,6 +22,7 @@ pub fn refuse(k: u32) -> Choice
     }
 }
 
+// 1 or 2.
 fn is_mode(mode: u32) -> bool
     ensures { λ t. ⌜ t ≡ (eqb mode 1 || eqb mode 2) ⌝ }
 {
@@ -31,7 +32,7 @@ fn is_mode(mode: u32) -> bool
     mode == 2
 }
 
-// 1 to 3.
+// The first of 1 to 3 that applies, or 0.
 fn on_setting(r: Report, bytes: usize) -> u32
     ensures { λ k. ⌜ k ≡ first (onSetting r bytes) ⌝ }
 {
@@ -47,7 +48,7 @@ fn on_setting(r: Report, bytes: usize) -> u32
     0
 }
 
-// 4 and 5.
+// The first of 4 and 5.
 fn on_rank(r: Report, ranks: u8) -> u32
     requires { ⌜ isSetting (r .n1) (r .n2) ≡ true ⌝ }
     ensures { λ k. ⌜ k ≡ first (onRank r ranks) ⌝ }
@@ -68,7 +69,7 @@ fn on_rank(r: Report, ranks: u8) -> u32
     0
 }
 
-// 6 to 9.
+// The first of 6 to 9.
 fn on_indices(r: Report) -> u32
     requires { ⌜ (isSetting (r .n1) (r .n2) ≡ true) × (1 ≤ r .v) ⌝ }
     ensures { λ k. ⌜ k ≡ first (onIndices r) ⌝ }
@@ -88,7 +89,7 @@ fn on_indices(r: Report) -> u32
     0
 }
 
-// 1 to 9.
+// The first of 1 to 9.
 pub fn on_report(r: Report, bytes: usize, ranks: u8) -> u32
     ensures { λ k. ⌜ k ≡ first (onSetting r bytes ++ (onRank r ranks ++ onIndices r)) ⌝ }
 {

@@ -7,10 +7,10 @@ ghost use Rattle.codebook.specs.Settings.{isSetting, ports, o1, o2, acro
 // Bit N1 of entry N2 is one where (N1,N2) is a setting.
 const SETTINGS: [u32; 5] = [
     0,
-    0b1_0001_0001_0101_0110,
-    0b1_0101_1100,
-    0b1_0000,
-    0b1_0000,
+    0b1_0001_0001_0101_0110, // N2 = 1: N1 = 1, 2, 4, 6, 8, 12, 16
+    0b1_0101_1100, // N2 = 2: 2, 3, 4, 6, 8
+    0b1_0000, // N2 = 3: 4
+    0b1_0000, // N2 = 4: 4
 ];
 
 // Tests the pair itself: many pairs that are not settings have the ports of one.
@@ -35,20 +35,21 @@ pub fn ports_of(n1: u32, n2: u32) -> u32
     2 * (n1 * n2)
 }
 
-// O1 and O2.
+// O1: two ports have one beam.
 pub fn o1_of(n1: u32) -> u32
     ensures { λ o. ⌜ o ≡ o1 n1 ⌝ }
 {
     if n1 == 1 { 1 } else { 4 }
 }
 
+// O2.
 pub fn o2_of(n2: u32) -> u32
     ensures { λ o. ⌜ o ≡ o2 n2 ⌝ }
 {
     if 1 < n2 { 4 } else { 1 }
 }
 
-// N1·O1 and N2·O2.
+// N1·O1.
 pub fn across_of(n1: u32) -> u32
     requires { ⌜ n1 ≤ 16 ⌝ }
     ensures { λ w. ⌜ w ≡ across n1 ⌝ }
@@ -56,6 +57,7 @@ pub fn across_of(n1: u32) -> u32
     n1 * o1_of(n1)
 }
 
+// N2·O2.
 pub fn down_of(n2: u32) -> u32
     requires { ⌜ n2 ≤ 4 ⌝ }
     ensures { λ w. ⌜ w ≡ down n2 ⌝ }

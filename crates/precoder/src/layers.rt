@@ -18,14 +18,14 @@ ghost use Rattle.precoder.specs.Layer.{Reduced, Framed, Draws};
 // where nothing, half a turn, f, or f and half a turn is added to the second polarisation. Layers of half-length beams
 // have the digits of three and four layers: B stands for t added to the second quarter, and B' for t and half a turn.
 const RANKS: [u32; 8] = [
-    0x2,
-    0x72,
-    0x362,
-    0x7362,
-    0x85432,
-    0x987632,
-    0xdc98632,
-    0xdc987632,
+    0x2, // [B; f]
+    0x72, // [B; f], [B'; f+½]
+    0x362, // [B; f], [B'; f], [B; f+½]
+    0x7362, // the same, [B'; f+½]
+    0x85432, // [B; f], [B; f+½], [B'; 0], [B'; ½], [B''; 0]
+    0x987632, // [B; f], [B; f+½], [B'; f], [B'; f+½], [B''; 0], [B''; ½]
+    0xdc98632, // [B; f], [B; f+½], [B'; f], [B''; 0], [B''; ½], [B'''; 0], [B'''; ½]
+    0xdc987632, // the same, with [B'; f+½] after [B'; f]
 ];
 
 // What the layers of a report have in common: how many blocks they have, the rows of a block, the phases for one step of

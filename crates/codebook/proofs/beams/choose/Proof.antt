@@ -1,77 +1,102 @@
--- `codebook::beams::choose` meets its contract: each way out has its offsets. Assumes nothing.
-use mathlib.Core.Path.{_≡_, sym, _∙_}
-use mathlib.Core.Bool.{false}
+-- `codebook::beams::choose` meets its contract: its beams are those of the offsets. Assumes nothing.
+use mathlib.Core.Path.{sym, _∙_}
 use native.Mathlib.Omega.{arith}
-use lib.Dec.{leb}
+use lib.Dec.{lit≤}
 use borrow.Author.Needs.{needs}
-use borrow.Author.Tests.{eq-eqb, ne-eqb, le-leb, lt-leb}
-use Rattle.codebook.specs.Columns.{offsets}
+use borrow.Author.Tests.{eq-eqb, ne-eqb}
+use Rattle.codebook.specs.Refusals.{Near}
+use Rattle.codebook.specs.Settings.{some}
+use Rattle.codebook.proofs.Bounds.{i11-few, i12-few, base-near}
+use Rattle.codebook.proofs.Chosen.{chosen-beams, offsets-one, offsets-two}
 use Rattle.codebook.proofs.Rows.{rows-near}
 use Rattle.codebook.proofs.beams.choose.Statement.{statement}
 use Rattle.codebook.proofs.beams.choose.Tie as tie
 
-few : (c : tie.Else2) → (leb 7 (c .before .before .before .before .before .args .r .v) ≡ false) × (leb 5 (c .before .before .before .before .before .args .r .v) ≡ false)
-few c = (lt-leb 7 _ (c .before .before .if1 .left), lt-leb 5 _ (c .if2 .left))
+near-base : (c : tie.After-base-of) → Near (c .base-of .result)
+near-base c = rw (c .base-of .ensures) (base-near (c .before .args .r) (c .before .pre))
 
 base-of-requires : tie.Need-base-of-requires
 base-of-requires c κs = search needs
 
-four-beams-requires : tie.Need-four-beams-requires
-four-beams-requires c κs = (c .before .before .before .pre, c .before .before .base-of .ensures, unfold offsets in rw (le-leb 7 _ (c .if1 .taken)))
+moved-by-requires : tie.Need-moved-by-requires
+moved-by-requires c κs = (c .before .pre .setting, near-base c, record { l = lit≤ tt; m = lit≤ tt })
+
+choose-many-requires : tie.Need-choose-many-requires
+choose-many-requires c κs = search needs
 
 returns : tie.Need-returns
 returns c = search needs
 
-three-beams-requires : tie.Need-three-beams-requires
-three-beams-requires c κs = (c .before .before .before .before .before .pre, c .before .before .before .before .base-of .ensures, unfold offsets in rw (lt-leb 7 _ (c .before .before .if1 .left), le-leb 5 _ (c .if2 .taken)))
+chosen-requires : tie.Need-chosen-requires
+chosen-requires c κs = c .before .before .before .before .before .before .pre .setting
 
 returns-2 : tie.Need-returns-2
-returns-2 c = search needs
-
-one-beam-requires : tie.Need-one-beam-requires
-one-beam-requires c κs = (c .before .before .before .before .before .before .before .pre, c .before .before .before .before .before .before .base-of .ensures, unfold offsets in rw (few (c .before .before) .0, few (c .before .before) .1, eq-eqb _ _ (c .if3 .taken)))
-
-returns-3 : tie.Need-returns-3
-returns-3 c = search needs
+returns-2 c = let r = c .before .before .before .before .before .before .before .args .r in
+    rw (c .chosen .ensures, c .before .before .before .before .before .moved-by .ensures, c .before .before .before .before .before .before .base-of .ensures)
+    (chosen-beams r _ (offsets-one r (omega arith) (rw (eq-eqb _ _ (c .before .if2 .taken)))))
 
 is-half-length-requires : tie.Need-is-half-length-requires
 is-half-length-requires c κs = search needs
 
-one-beam-requires-2 : tie.Need-one-beam-requires-2
-one-beam-requires-2 c κs = (c .before .before .before .before .before .before .before .before .before .pre, c .before .before .before .before .before .before .before .before .base-of .ensures, unfold offsets in rw (few (c .before .before .before .before) .0, few (c .before .before .before .before) .1, ne-eqb _ _ (c .before .before .if3 .left), sym (c .before .is-half-length .ensures) ∙ c .if4 .taken))
+chosen-requires-2 : tie.Need-chosen-requires-2
+chosen-requires-2 c κs = c .before .before .before .before .before .before .before .before .pre .setting
 
-returns-4 : tie.Need-returns-4
-returns-4 c = search needs
+returns-3 : tie.Need-returns-3
+returns-3 c = let r = c .before .before .before .before .before .before .before .before .before .args .r in
+    rw (c .chosen2 .ensures, c .before .before .before .before .before .before .before .moved-by .ensures, c .before .before .before .before .before .before .before .before .base-of .ensures)
+    (chosen-beams r _
+    (offsets-one r (omega arith)
+    (rw (ne-eqb _ _ (c .before .before .before .if2 .left), sym (c .before .before .is-half-length .ensures) ∙ c .before .if3 .taken))))
 
 k-row-requires : tie.Need-k-row-requires
-k-row-requires c κs = (c .before .before .before .before .before .before .before .before .before .pre, sym (c .before .is-half-length .ensures) ∙ c .if4 .left, omega (arith, c .before .before .before .before .before .before .before .before .before .pre .some, c .before .before .if3 .left), omega arith)
-
-two-beams-requires : tie.Need-two-beams-requires
-two-beams-requires c κs = let s = c .before .before .before .before .before .before .before .before .before .before in (
+k-row-requires c κs = let s = c .before .before .before .before .before .before .before .before in (
   s .pre,
-  c .before .before .before .before .before .before .before .before .before .base-of .ensures,
-  rw (c .k-row .ensures) (rows-near (s .args .r) .at (s .args .r .i13)),
-  unfold offsets in
-      rw (few (c .before .before .before .before .before) .0, few (c .before .before .before .before .before) .1, ne-eqb _ _ (c .before .before .before .if3 .left), sym (c .before .before .is-half-length .ensures) ∙ c .before .if4 .left, c .k-row .ensures),
+  sym (c .before .is-half-length .ensures) ∙ c .if3 .left,
+  omega (arith, s .pre .some, c .before .before .if2 .left),
+  omega arith,
 )
 
-returns-5 : tie.Need-returns-5
-returns-5 c = search needs
+moved-by-requires-2 : tie.Need-moved-by-requires-2
+moved-by-requires-2 c κs = let s = c .before .before .before .before .before .before .before .before .before in
+    let x = near-base (c .before .before .before .before .before .before .before .before) in (
+      s .pre .setting,
+      record {
+        l = omega (arith, x .l, i11-few (s .args .r) (s .pre));
+        m = omega (arith, x .m, i12-few (s .args .r) (s .pre));
+      },
+      rw (c .k-row .ensures) (rows-near (s .args .r) .at (s .args .r .i13)),
+    )
+
+chosen-requires-3 : tie.Need-chosen-requires-3
+chosen-requires-3 c κs = c .before .before .before .before .before .before .before .before .before .before .pre .setting
+
+returns-4 : tie.Need-returns-4
+returns-4 c = let r = c .before .before .before .before .before .before .before .before .before .before .before .args .r in
+    rw (
+      c .chosen3 .ensures,
+      c .before .before .before .before .before .before .before .before .before .moved-by .ensures,
+      c .before .moved-by2 .ensures,
+      c .before .before .k-row .ensures,
+      c .before .before .before .before .before .before .before .before .before .before .base-of .ensures,
+    )
+    (chosen-beams r _
+    (offsets-two r (omega arith)
+    (rw (ne-eqb _ _ (c .before .before .before .before .before .if2 .left), sym (c .before .before .before .before .is-half-length .ensures) ∙ c .before .before .before .if3 .left))))
 
 pub choose-spec : {M : Type 1} → statement M
 choose-spec =
     tie.close
     (tie.spec
     base-of-requires
-    four-beams-requires
+    moved-by-requires
+    choose-many-requires
     returns
-    three-beams-requires
+    chosen-requires
     returns-2
-    one-beam-requires
-    returns-3
     is-half-length-requires
-    one-beam-requires-2
-    returns-4
+    chosen-requires-2
+    returns-3
     k-row-requires
-    two-beams-requires
-    returns-5)
+    moved-by-requires-2
+    chosen-requires-3
+    returns-4)
