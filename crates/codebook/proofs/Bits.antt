@@ -16,7 +16,7 @@ use Rattle.codebook.specs.declared.Beam.{Beam}
 use Rattle.codebook.specs.Settings.{some, isSetting, across, down, maskBytes}
 use Rattle.codebook.specs.Columns.{beam, halfLength, base, kRows, offsets, moved, beams}
 use Rattle.codebook.specs.Masks.{bitOf, bit, beamBit, bitsRead, isZero, barred}
-use Rattle.codebook.specs.Refusals.{lOf, mOf, accepted, bitsAt}
+use Rattle.codebook.specs.Refusals.{numbers, accepted, bitsAt}
 use Rattle.codebook.proofs.Booleans.{or-false}
 use Rattle.codebook.proofs.Known.{known, mask-bits}
 
@@ -89,7 +89,7 @@ module _ (mask : List ℕ) (width : ℕ) (l m : List ℕ) where
       either false = refl
 
 -- up to four beams, given by their numbers
-pub bits-of-beams : (n2 : ℕ) (xs : List Beam) → length xs ≤ 4 → bitsAt (length xs) (down n2) (lOf xs) (mOf xs) ≡ map (beamBit n2) xs
+pub bits-of-beams : (n2 : ℕ) (xs : List Beam) → length xs ≤ 4 → bitsAt (length xs) (down n2) (numbers (λ x. x .l) xs) (numbers (λ x. x .m) xs) ≡ map (beamBit n2) xs
 unfolding bitsAt beamBit
 bits-of-beams n2 [] h = refl
 bits-of-beams n2 (a ∷ []) h = refl
@@ -127,7 +127,7 @@ beams-within r e i = go (offsets r) i
 
 -- one number of each of four beams, by place
 pub four-at : (g : Beam → ℕ) (xs : List Beam) (i : ℕ) → i < 4
-    → getD (g (getD xs 0 none) ∷ g (getD xs 1 none) ∷ g (getD xs 2 none) ∷ g (getD xs 3 none) ∷ []) i 0 ≡ g (getD xs i none)
+    → getD (numbers g xs) i 0 ≡ g (getD xs i none)
 four-at g xs zero h = refl
 four-at g xs (suc zero) h = refl
 four-at g xs (suc (suc zero)) h = refl
@@ -172,11 +172,11 @@ length-beams r = length-map (offsets r) (moved r (base r))
 -- ---- the beams of an accepted report
 
 module _ (r : Report) where
-  pub accepted-l : accepted r .l ≡ lOf (beams r)
+  pub accepted-l : accepted r .l ≡ numbers (λ x. x .l) (beams r)
   unfolding accepted
   accepted-l = refl
 
-  pub accepted-m : accepted r .m ≡ mOf (beams r)
+  pub accepted-m : accepted r .m ≡ numbers (λ x. x .m) (beams r)
   unfolding accepted
   accepted-m = refl
 

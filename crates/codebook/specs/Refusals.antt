@@ -47,12 +47,9 @@ refusals r mask ranks room = onSetting r (length mask) ++ (onRank r ranks ++ (on
 unfoldable pub refusal : Report → List ℕ → ℕ → ℕ → ℕ
 refusal r mask ranks room = first (refusals r mask ranks room)
 
--- l and m of four beams, unused places 0
-abbrev pub lOf : List Beam → List ℕ
-lOf xs = getD xs 0 (beam 0 0) .l ∷ getD xs 1 (beam 0 0) .l ∷ getD xs 2 (beam 0 0) .l ∷ getD xs 3 (beam 0 0) .l ∷ []
-
-abbrev pub mOf : List Beam → List ℕ
-mOf xs = getD xs 0 (beam 0 0) .m ∷ getD xs 1 (beam 0 0) .m ∷ getD xs 2 (beam 0 0) .m ∷ getD xs 3 (beam 0 0) .m ∷ []
+-- a number of each of four beams, 0 in unused places
+abbrev pub numbers : (Beam → ℕ) → List Beam → List ℕ
+numbers g xs = g (getD xs 0 (beam 0 0)) ∷ g (getD xs 1 (beam 0 0)) ∷ g (getD xs 2 (beam 0 0)) ∷ g (getD xs 3 (beam 0 0)) ∷ []
 
 -- a refused report: the number, and zeros
 abbrev pub refused : ℕ → Choice
@@ -60,7 +57,7 @@ refused k = record { refusal = k; blocks = 0; n = 0; l = 0 ∷ 0 ∷ 0 ∷ 0 ∷
 
 -- an accepted one: what its columns are made of
 abbrev pub ofBeams : Report → List Beam → Choice
-ofBeams r xs = record { refusal = 0; blocks = blocks r; n = n r; l = lOf xs; m = mOf xs }
+ofBeams r xs = record { refusal = 0; blocks = blocks r; n = n r; l = numbers (λ x. x .l) xs; m = numbers (λ x. x .m) xs }
 
 unfoldable pub accepted : Report → Choice
 accepted r = ofBeams r (beams r)
