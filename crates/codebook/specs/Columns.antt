@@ -121,7 +121,8 @@ moved r x k = beam ((x .l + o1 (r .n1) * k .l) % across (r .n1)) ((x .m + o2 (r 
 unfoldable pub beams : Report → List Beam
 beams r = map (moved r (base r)) (offsets r)
 
--- How many values each index has; one without use has one, 0. i11: N1·O1, halved in mode 2 with v ≤ 2, for half-length beams, and at v = 7 and 8 for (4,1)
+-- How many values each index has; one without use has one, 0.
+-- i11: N1·O1, halved in mode 2 with v ≤ 2, for half-length beams, and at v = 7 and 8 for (4,1)
 unfoldable pub halvesI11 : Report → Bool
 halvesI11 r = modeTwo r || halfLength r || (leb 7 (r .v) && eqb (r .n1) 4 && eqb (r .n2) 1)
 

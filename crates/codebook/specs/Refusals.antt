@@ -49,7 +49,8 @@ refusal r mask ranks room = first (refusals r mask ranks room)
 
 -- a number of each of four beams, 0 in unused places
 abbrev pub numbers : (Beam → ℕ) → List Beam → List ℕ
-numbers g xs = g (getD xs 0 (beam 0 0)) ∷ g (getD xs 1 (beam 0 0)) ∷ g (getD xs 2 (beam 0 0)) ∷ g (getD xs 3 (beam 0 0)) ∷ []
+numbers g xs =
+    g (getD xs 0 (beam 0 0)) ∷ g (getD xs 1 (beam 0 0)) ∷ g (getD xs 2 (beam 0 0)) ∷ g (getD xs 3 (beam 0 0)) ∷ []
 
 -- a refused report: the number, and zeros
 abbrev pub refused : ℕ → Choice

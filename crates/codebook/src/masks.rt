@@ -51,7 +51,8 @@ fn beam_count(r: Report) -> usize
 
 // Whether the bit of one of the first n beams is zero.
 fn some_zero(mask: &[u8], n: usize, width: u32, l: [u32; 4], m: [u32; 4]) -> bool
-    requires { ⌜ (n ≤ 4) × ((i : ℕ) → i < n → width * getD l i 0 + getD m i 0 < 8 * length (now mask)) × (length (now mask) ≤ 32) ⌝ }
+    requires { ⌜ (n ≤ 4) × ((i : ℕ) → i < n → width * getD l i 0 + getD m i 0 < 8 * length (now mask))
+        × (length (now mask) ≤ 32) ⌝ }
     ensures { λ t. ⌜ t ≡ some (isZero (now (mask .entry))) (bitsAt n width l m) ⌝ }
 {
     let mut i = 0;

@@ -47,7 +47,8 @@ fn first_row(out: &mut [u8], n: usize, step: u8)
 // The rows after the first, n rows of w entries in all: each is the row before it, turned by `step`.
 fn other_rows(out: &mut [u8], w: usize, n: usize, step: u8)
     requires { ⌜ (1 ≤ n) × (1 ≤ w) × (n * w ≤ length (now out)) × (step < turn) × Reduced (take w (now out)) ⌝ }
-    ensures { λ _. ⌜ now (out .exit) ≡ column (steps n step) (take w (now (out .entry))) ++ drop (n * w) (now (out .entry)) ⌝ }
+    ensures { λ _. ⌜ now (out .exit)
+        ≡ column (steps n step) (take w (now (out .entry))) ++ drop (n * w) (now (out .entry)) ⌝ }
 {
     let end = n * w;
     let mut i = w;
@@ -74,7 +75,8 @@ fn block(out: &mut [u8], w: usize, at: usize, c: u8)
 
 // The blocks after the first, n blocks of w entries in all: block q is the first turned by co[q].
 fn other_blocks(out: &mut [u8], w: usize, n: usize, co: [u8; 4])
-    requires { ⌜ (1 ≤ n) × (n ≤ 4) × (n * w ≤ length (now out)) × (getD co 0 0 ≡ 0) × Reduced co × Reduced (take w (now out)) ⌝ }
+    requires { ⌜ (1 ≤ n) × (n ≤ 4) × (n * w ≤ length (now out)) × (getD co 0 0 ≡ 0)
+        × Reduced co × Reduced (take w (now out)) ⌝ }
     ensures { λ _. ⌜ now (out .exit) ≡ column (take n co) (take w (now (out .entry))) ++ drop (n * w) (now (out .entry)) ⌝ }
 {
     let mut q = 1;

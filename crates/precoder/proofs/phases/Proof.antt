@@ -1,13 +1,13 @@
--- `precoder::phases` meets its contract: a refused report gives its number, and the matrix of any other is written. Assumes nothing.
+-- `precoder::phases` meets its contract: a refused report gives its number, and the matrix of any other is written.
+-- Assumes nothing.
 use mathlib.Core.Path.{_≡_, sym, ap, _∙_}
 use lib.ListN.{length}
 use borrow.Author.Needs.{needs}
-use Rattle.precoder.specs.Answer.{recordOf}
+use Rattle.codebook.specs.declared.Choice.{Choice}
+use Rattle.codebook.specs.Refusals.{refusal, judged}
 use Rattle.codebook.proofs.Layers.{length-matrix}
 use Rattle.codebook.proofs.Passed.{judged-number, Accepted, accepted-of}
-use Rattle.codebook.specs.Columns.{q}
-use Rattle.codebook.specs.Refusals.{judged, refusal}
-use Rattle.codebook.specs.declared.Choice.{Choice}
+use Rattle.precoder.specs.Answer.{recordOf}
 use Rattle.precoder.proofs.Answers.{record-refused, buffer-refused, buffer-accepted}
 use Rattle.precoder.proofs.phases.Statement.{statement}
 use Rattle.precoder.proofs.phases.Tie as tie
@@ -17,43 +17,47 @@ number : (c : tie.After-judge) → let s = c .before .before .before in
     c .judge .result .refusal ≡ refusal (s .args .r) (s .args .beams .now) (s .args .ranks) (length (s .args .out .now))
 number c = ap (λ (x : Choice). x .refusal) (c .judge .ensures) ∙ judged-number _ _
 
-zero-of : (c : tie.Else1) → let s = c .before .before .before .before .before in
+none : (c : tie.Else1) → let s = c .before .before .before .before .before in
     refusal (s .args .r) (s .args .beams .now) (s .args .ranks) (length (s .args .out .now)) ≡ 0
-zero-of c = sym (number (c .before .before)) ∙ c .if1 .left
+none c = sym (number (c .before .before)) ∙ c .if1 .left
 
-taken : (c : tie.Else1) → let s = c .before .before .before .before .before in
+accepted : (c : tie.Else1) → let s = c .before .before .before .before .before in
     Accepted (s .args .r) (s .args .beams .now) (s .args .ranks) (length (s .args .out .now))
-taken c = accepted-of _ _ _ _ (zero-of c)
+accepted c = accepted-of _ _ _ _ (none c)
 
 judge-requires : tie.Need-judge-requires
 judge-requires c κs = search needs
 
 returns : tie.Need-returns
-returns c = let s = c .before .before .before .before .before in
+returns c =
+    let r = c .before .before .before .before .before .args .r in
     let e = number (c .before .before) in
     record {
-      record-is = record-refused (s .args .r) _ (c .if1 .taken) ∙ ap (recordOf (s .args .r)) e;
-      buffer-is = sym (buffer-refused _ _ _ (λ q. c .if1 .taken (e ∙ q)));
+      record-is = record-refused r _ (c .if1 .taken) ∙ ap (recordOf r) e;
+      buffer-is = sym (buffer-refused _ _ _ (λ z. c .if1 .taken (e ∙ z)));
     }
 
 matrix-requires : tie.Need-matrix-requires
-matrix-requires c κs = let s = c .before .before .before .before .before .before in
-    let a = taken (c .before) in
-    (a .in-range, (c .before .before .before .judge .ensures ∙ ap (judged (s .args .r)) (zero-of (c .before))), a .fits)
+matrix-requires c κs =
+    let e = c .before in
+    let a = accepted e in
+    let judge = e .before .before .judge in
+    (a .in-range, judge .ensures ∙ ap (judged (e .before .before .before .before .before .args .r)) (none e), a .fits)
 
 accepted-requires : tie.Need-accepted-requires
-accepted-requires c κs = taken (c .before .before .before .before) .in-range
+accepted-requires c κs = accepted (c .before .before .before .before) .in-range
 
 same-length : tie.Need-same-length
 same-length c = search needs
 
 returns-2 : tie.Need-returns-2
-returns-2 c = let s = c .before .before .before .before .before .before .before .before .before .before in
+returns-2 c =
+    let e = c .before .before .before .before .before in
+    let r = e .before .before .before .before .before .args .r in
+    let long = length-matrix r (accepted e .in-range) in
     record {
-      record-is = c .accepted .ensures ∙ ap (recordOf (s .args .r)) (sym (zero-of (c .before .before .before .before .before)));
-      buffer-is =
-          c .before .before .before .matrix .ensures
-          ∙ sym (buffer-accepted _ _ _ _ (zero-of (c .before .before .before .before .before)) (length-matrix (s .args .r) (taken (c .before .before .before .before .before) .in-range)));
+      record-is = c .accepted .ensures ∙ ap (recordOf r) (sym (none e));
+      buffer-is = c .before .before .before .matrix .ensures ∙ sym (buffer-accepted _ _ _ _ (none e) long);
     }
 
 pub phases-spec : {M : Type 1} → statement M
