@@ -14,11 +14,11 @@ use borrow.Author.Tests.{eq-eqb, ne-eqb, eqb-false}
 use Rattle.codebook.specs.declared.Report.{Report}
 use Rattle.codebook.specs.declared.Beam.{Beam}
 use Rattle.codebook.specs.Settings.{some, isSetting, across, down, maskBytes}
-use Rattle.codebook.specs.Columns.{beam, halfLength, base, kRows, offsets, moved, beams}
+use Rattle.codebook.specs.Columns.{beam, halfLength, base, offsets, moved, beams}
 use Rattle.codebook.specs.Masks.{bitOf, bit, beamBit, bitsRead, isZero, barred}
 use Rattle.codebook.specs.Refusals.{numbers, accepted, bitsAt}
-use Rattle.codebook.proofs.Booleans.{or-false}
-use Rattle.codebook.proofs.Known.{known, mask-bits}
+use Rattle.codebook.proofs.Booleans.{cond-both, cond-each, or-false}
+use Rattle.codebook.proofs.Known.{Known, known, mask-bits}
 
 pub some-append : {A : Type 0} (test : A → Bool) (xs ys : List A) → some test (xs ++ ys) ≡ (some test xs || some test ys)
 unfolding some
@@ -48,7 +48,8 @@ some-false test (y ∷ xs) x (suc i) e h = some-false test xs x i (or-false (tes
 pub all-ones : {A : Type 0} (f : A → ℕ) (xs : List A) (x : A) → ((i : ℕ) → i < length xs → f (getD xs i x) ≡ 1)
     → map f xs ≡ replicate (length xs) 1
 all-ones f [] x h = refl
-all-ones f (y ∷ xs) x h = ap₂ {C = List ℕ} (λ y ys. y ∷ ys) (h 0 (omega arith)) (all-ones f xs x (λ i k. h (suc i) (omega arith)))
+all-ones f (y ∷ xs) x h =
+    ap₂ {C = List ℕ} (λ y ys. y ∷ ys) (h 0 (omega arith)) (all-ones f xs x (λ i k. h (suc i) (omega arith)))
 
 -- a bit that is not zero is one
 pub bit-one : (mask : List ℕ) (k : ℕ) → isZero mask k ≡ false → bit mask k ≡ 1
@@ -89,14 +90,16 @@ module _ (mask : List ℕ) (width : ℕ) (l m : List ℕ) where
       either false = refl
 
 -- up to four beams, given by their numbers
-pub bits-of-beams : (n2 : ℕ) (xs : List Beam) → length xs ≤ 4 → bitsAt (length xs) (down n2) (numbers (λ x. x .l) xs) (numbers (λ x. x .m) xs) ≡ map (beamBit n2) xs
+pub bits-of-beams : (n2 : ℕ) (xs : List Beam) → length xs ≤ 4
+    → bitsAt (length xs) (down n2) (numbers (λ x. x .l) xs) (numbers (λ x. x .m) xs) ≡ map (beamBit n2) xs
 unfolding bitsAt beamBit
 bits-of-beams n2 [] h = refl
 bits-of-beams n2 (a ∷ []) h = refl
 bits-of-beams n2 (a ∷ b ∷ []) h = refl
 bits-of-beams n2 (a ∷ b ∷ c ∷ []) h = refl
 bits-of-beams n2 (a ∷ b ∷ c ∷ d ∷ []) h = refl
-bits-of-beams n2 (a ∷ b ∷ c ∷ d ∷ e ∷ xs) h = absurd (let z : suc (suc (suc (suc (suc (length xs))))) ≤ 4 = h in omega arith)
+bits-of-beams n2 (a ∷ b ∷ c ∷ d ∷ e ∷ xs) h =
+    absurd (let five : suc (suc (suc (suc (suc (length xs))))) ≤ 4 = h in omega arith)
 
 -- ---- where they lie
 
@@ -113,16 +116,20 @@ unfolding beamBit
 bit-within n1 n2 x w = omega (arith, digits-lt (w .l) (w .m))
 
 -- every beam of a report, and the place where there is none
-pub beams-within : (r : Report) → isSetting (r .n1) (r .n2) ≡ true → (i : ℕ) → Within (r .n1) (r .n2) (getD (beams r) i (beam 0 0))
+pub beams-within : (r : Report) → isSetting (r .n1) (r .n2) ≡ true
+    → (i : ℕ) → Within (r .n1) (r .n2) (getD (beams r) i none)
 unfolding beams
 beams-within r e i = go (offsets r) i
   where
-    reduced : (k : Beam) → (moved r (base r) k .l < across (r .n1)) × (moved r (base r) k .m < down (r .n2))
-    reduced k = unfold moved in (mod-lt _ (known _ _ e .across-some), mod-lt _ (known _ _ e .down-some))
+    s : Known (r .n1) (r .n2)
+    s = known (r .n1) (r .n2) e
 
-    go : (ks : List Beam) (i : ℕ) → Within (r .n1) (r .n2) (getD (map (moved r (base r)) ks) i (beam 0 0))
-    go [] i = record { l = known _ _ e .across-some; m = known _ _ e .down-some }
-    go (k ∷ ks) zero = record { l = reduced k .0; m = reduced k .1 }
+    reduced : (k : Beam) → Within (r .n1) (r .n2) (moved r (base r) k)
+    reduced k = unfold moved in record { l = mod-lt _ (s .across-some); m = mod-lt _ (s .down-some) }
+
+    go : (ks : List Beam) (i : ℕ) → Within (r .n1) (r .n2) (getD (map (moved r (base r)) ks) i none)
+    go [] i = record { l = s .across-some; m = s .down-some }
+    go (k ∷ ks) zero = reduced k
     go (k ∷ ks) (suc i) = go ks i
 
 -- one number of each of four beams, by place
@@ -138,32 +145,27 @@ four-at g xs (suc (suc (suc (suc i)))) h = absurd (omega arith)
 abbrev pub counted : ℕ → Bool → ℕ
 counted v single = cond (leb 7 v) 4 (cond (leb 5 v) 3 (cond single 1 2))
 
+pub counted-some : (v : ℕ) (single : Bool) → 1 ≤ counted v single
+counted-some v single =
+    cond-both (λ n. 1 ≤ n) (leb 7 v) (lit≤ tt)
+    (cond-both (λ n. 1 ≤ n) (leb 5 v) (lit≤ tt) (cond-both (λ n. 1 ≤ n) single (lit≤ tt) (lit≤ tt)))
+
+counted-few : (v : ℕ) (single : Bool) → counted v single ≤ 4
+counted-few v single =
+    cond-both (λ n. n ≤ 4) (leb 7 v) (lit≤ tt)
+    (cond-both (λ n. n ≤ 4) (leb 5 v) (lit≤ tt) (cond-both (λ n. n ≤ 4) single (lit≤ tt) (lit≤ tt)))
+
 pub length-offsets : (r : Report) → length (offsets r) ≡ counted (r .v) (eqb (r .v) 1 || halfLength r)
 unfolding offsets
-length-offsets r = go (leb 7 (r .v)) (leb 5 (r .v)) (eqb (r .v) 1 || halfLength r) (ltb 1 (r .n2))
-  where
-    go : (a b d c : Bool)
-        → length (cond a
-        (cond c (beam 0 0 ∷ beam 1 0 ∷ beam 0 1 ∷ beam 1 1 ∷ []) (beam 0 0 ∷ beam 1 0 ∷ beam 2 0 ∷ beam 3 0 ∷ []))
-        (cond b
-        (cond c (beam 0 0 ∷ beam 1 0 ∷ beam 1 1 ∷ []) (beam 0 0 ∷ beam 1 0 ∷ beam 2 0 ∷ []))
-        (cond d (beam 0 0 ∷ []) (beam 0 0 ∷ getD (kRows r) (r .i13) (beam 0 0) ∷ []))))
-        ≡ cond a 4 (cond b 3 (cond d 1 2))
-    go true b d true = refl
-    go true b d false = refl
-    go false true d true = refl
-    go false true d false = refl
-    go false false true c = refl
-    go false false false c = refl
+length-offsets r =
+    cond-each length (leb 7 (r .v))
+    (cond-both (λ (ks : List Beam). length ks ≡ 4) (ltb 1 (r .n2)) refl refl)
+    (cond-each length (leb 5 (r .v))
+    (cond-both (λ (ks : List Beam). length ks ≡ 3) (ltb 1 (r .n2)) refl refl)
+    (cond-each length (eqb (r .v) 1 || halfLength r) refl refl))
 
 pub offsets-few : (r : Report) → length (offsets r) ≤ 4
-offsets-few r = rw (length-offsets r) (go (leb 7 (r .v)) (leb 5 (r .v)) (eqb (r .v) 1 || halfLength r))
-  where
-    go : (a b d : Bool) → cond a 4 (cond b 3 (cond d 1 2)) ≤ 4
-    go true b d = lit≤ tt
-    go false true d = lit≤ tt
-    go false false true = lit≤ tt
-    go false false false = lit≤ tt
+offsets-few r = rw (length-offsets r) (counted-few (r .v) (eqb (r .v) 1 || halfLength r))
 
 pub length-beams : (r : Report) → length (beams r) ≡ length (offsets r)
 unfolding beams
@@ -211,7 +213,8 @@ module _ (r : Report) (mask : List ℕ) (clear : barred mask r ≡ false) where
   bits-one i h = bit-one mask (getD (bitsRead r) i 0) (some-false (isZero mask) (bitsRead r) 0 i clear h)
 
   -- and above two ports that of every beam
-  pub beams-one : (r .n1 ≡ 1 → ⊥) → (i : ℕ) → i < length (beams r) → bit mask (beamBit (r .n2) (getD (beams r) i none)) ≡ 1
+  pub beams-one : (r .n1 ≡ 1 → ⊥) → (i : ℕ) → i < length (beams r)
+      → bit mask (beamBit (r .n2) (getD (beams r) i none)) ≡ 1
   unfolding barred bitsRead
   beams-one more i h =
       let e : some (isZero mask) (map (beamBit (r .n2)) (beams r)) ≡ false = rw (ne-eqb (r .n1) 1 more) at clear in

@@ -1,6 +1,6 @@
 -- Truth values. Assumes nothing.
 use mathlib.Core.Path.{_≡_, refl}
-use mathlib.Core.Bool.{Bool, true, false, _&&_, _||_, Bool·beq, true≢false, false≢true}
+use mathlib.Core.Bool.{Bool, true, false, cond, _&&_, _||_, Bool·beq, true≢false, false≢true}
 use lib.Dec.{T}
 
 pub is-false : (b : Bool) → (b ≡ true → ⊥) → false ≡ b
@@ -12,6 +12,16 @@ same-truth true true t = refl
 same-truth false false t = refl
 same-truth true false t = absurd t
 same-truth false true t = absurd t
+
+-- what holds of both holds of either
+pub cond-both : {A : Type 0} (P : A → Type 0) (b : Bool) {x y : A} → P x → P y → P (cond b x y)
+cond-both P true p q = p
+cond-both P false p q = q
+
+-- a function's value is that of the side that is taken
+pub cond-each : {A B : Type 0} (f : A → B) (b : Bool) {x y : A} {m n : B} → f x ≡ m → f y ≡ n → f (cond b x y) ≡ cond b m n
+cond-each f true p q = p
+cond-each f false p q = q
 
 pub or-false : (a b : Bool) → (a || b) ≡ false → (a ≡ false) × (b ≡ false)
 or-false true b e = absurd (true≢false e)

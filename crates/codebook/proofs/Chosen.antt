@@ -1,16 +1,17 @@
 -- What is chosen with beams that stand as far from B as the offsets say, by rank. Assumes nothing.
-use mathlib.Core.Path.{_≡_, refl, _∙_}
+use mathlib.Core.Path.{_≡_, refl, sym}
 use mathlib.Core.Bool.{Bool, true, false, cond, _||_}
 use mathlib.Core.List.{List, [], _∷_, map}
-use Prim.Native.Nat.{ℕ, _≤_, _<_}
+use Prim.Native.Nat.{_≤_}
 use native.Mathlib.Omega.{arith}
-use lib.Dec.{eqb, leb, ltb}
+use lib.Dec.{eqb, ltb}
 use lib.ListN.{getD}
 use borrow.Author.Tests.{le-leb, lt-leb}
 use Rattle.codebook.specs.declared.Report.{Report}
 use Rattle.codebook.specs.declared.Beam.{Beam}
 use Rattle.codebook.specs.Columns.{beam, halfLength, base, kRows, offsets, moved, beams}
 use Rattle.codebook.specs.Refusals.{ofBeams, accepted}
+use Rattle.codebook.proofs.Booleans.{cond-each}
 
 module _ (r : Report) where
   pub chosen-beams : (ks : List Beam) → offsets r ≡ ks → ofBeams r (map (moved r (base r)) ks) ≡ accepted r
@@ -30,13 +31,9 @@ module _ (r : Report) where
   pub offsets-three : 5 ≤ r .v → r .v ≤ 6
       → offsets r ≡ beam 0 0 ∷ beam 1 0 ∷ cond (ltb 1 (r .n2)) (beam 1 1) (beam 2 0) ∷ []
   unfolding offsets
-  offsets-three h k = rw (lt-leb 7 (r .v) (omega arith), le-leb 5 (r .v) h) (by-place (ltb 1 (r .n2)))
-    where
-      by-place : (b : Bool)
-          → cond b (beam 0 0 ∷ beam 1 0 ∷ beam 1 1 ∷ []) (beam 0 0 ∷ beam 1 0 ∷ beam 2 0 ∷ [])
-          ≡ beam 0 0 ∷ beam 1 0 ∷ cond b (beam 1 1) (beam 2 0) ∷ []
-      by-place true = refl
-      by-place false = refl
+  offsets-three h k =
+      rw (lt-leb 7 (r .v) (omega arith), le-leb 5 (r .v) h)
+      (sym (cond-each {B = List Beam} (λ x. beam 0 0 ∷ beam 1 0 ∷ x ∷ []) (ltb 1 (r .n2)) refl refl))
 
   pub offsets-four : 7 ≤ r .v
       → offsets r

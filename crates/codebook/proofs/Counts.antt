@@ -6,7 +6,8 @@ use Prim.Native.Nat.{ℕ, zero, suc, _+_, _*_}
 use lib.Dec.{ltb}
 use Rattle.codebook.specs.declared.Report.{Report}
 use Rattle.codebook.specs.Settings.{settings, ports}
-use Rattle.codebook.specs.Columns.{modeTwo, halfLength, kRows, kTwo, kThree, halvesI11, i11Values, halvesI12, i12Values, i13Values, i2Values}
+use Rattle.codebook.specs.Columns.{modeTwo, halfLength, kRows, kTwo, kThree}
+use Rattle.codebook.specs.Columns.{halvesI11, i11Values, halvesI12, i12Values, i13Values, i2Values}
 use Rattle.codebook.specs.Matrix.{join}
 
 -- the reports in range of a setting, mode and rank; the indices themselves play no part
@@ -45,7 +46,8 @@ pub reports-mode-one : map (reports 1) settings ≡
     ∷ (1024 ∷ 2048 ∷ 1024 ∷ 1024 ∷ 512 ∷ 512 ∷ 256 ∷ 256 ∷ [])
     ∷ (256 ∷ 512 ∷ 256 ∷ 256 ∷ 128 ∷ 128 ∷ 128 ∷ 128 ∷ [])
     ∷ []
-unfolding settings reports byRank inRange asked i11Values halvesI11 i12Values halvesI12 i13Values i2Values modeTwo halfLength kRows kTwo kThree
+unfolding settings reports byRank inRange asked i11Values halvesI11 i12Values halvesI12 i13Values i2Values
+    modeTwo halfLength kRows kTwo kThree
 reports-mode-one = refl
 
 pub reports-mode-two : map (reports 2) settings ≡
@@ -64,7 +66,8 @@ pub reports-mode-two : map (reports 2) settings ≡
     ∷ (1024 ∷ 2048 ∷ 1024 ∷ 1024 ∷ 512 ∷ 512 ∷ 256 ∷ 256 ∷ [])
     ∷ (512 ∷ 1024 ∷ 256 ∷ 256 ∷ 128 ∷ 128 ∷ 128 ∷ 128 ∷ [])
     ∷ []
-unfolding settings reports byRank inRange asked i11Values halvesI11 i12Values halvesI12 i13Values i2Values modeTwo halfLength kRows kTwo kThree
+unfolding settings reports byRank inRange asked i11Values halvesI11 i12Values halvesI12 i13Values i2Values
+    modeTwo halfLength kRows kTwo kThree
 reports-mode-two = refl
 
 -- all of them, in both modes

@@ -1,7 +1,7 @@
 -- What is known of every setting: tests computed over the list of them, and lifted to each. Assumes nothing.
 use mathlib.Core.Path.{_≡_, sym, subst}
 use mathlib.Core.Logic.{inl, inr}
-use mathlib.Core.Bool.{Bool, true, false, cond, _&&_, _||_}
+use mathlib.Core.Bool.{Bool, true, _&&_, _||_}
 use mathlib.Core.List.{List, [], _∷_}
 use Prim.Native.Nat.{ℕ, _*_, _/_, _≤_}
 use native.Mathlib.Omega.{arith}
@@ -9,6 +9,7 @@ use lib.Dec.{T, eqb, leb, ltb, eqb→eq, leb→le, lit≤}
 use Rattle.turn.specs.Phase.{turn}
 use Rattle.turn.proofs.Tests.{and-left, and-right, or-cases, or-else}
 use Rattle.codebook.specs.Settings.{some, settings, isSetting, ports, twoPorts, o1, o2, across, down, maskBytes}
+use Rattle.codebook.proofs.Booleans.{cond-both}
 
 -- the test passes at every pair of a list
 abbrev pub holds : (ℕ → ℕ → Bool) → List (ℕ × ℕ) → Bool
@@ -37,6 +38,12 @@ module _ (n1 n2 : ℕ) where
   pub at-setting : (f : ℕ → ℕ → Bool) → T (holds f settings) → isSetting n1 n2 ≡ true → T (f n1 n2)
   unfolding isSetting same
   at-setting f t e = at-some f settings t (subst T (sym e) tt)
+
+  -- and one that passes at every setting above two ports passes at this one if it is above
+  pub above-two : (f : ℕ → ℕ → Bool) → T (holds (λ a b. twoPorts a || f a b) settings) → isSetting n1 n2 ≡ true
+      → (n1 ≡ 1 → ⊥) → T (f n1 n2)
+  above-two f t e more =
+      or-else (twoPorts n1) (f n1 n2) (λ q. more (eqb→eq n1 1 q)) (at-setting (λ a b. twoPorts a || f a b) t e)
 
 pub record Known (n1 n2 : ℕ) : Type 0 where
   pub n1-some : 1 ≤ n1
@@ -69,7 +76,8 @@ known n1 n2 e =
           eqb→eq (across n1 * (turn / across n1)) turn
           (at-setting n1 n2 (λ n1 n2. eqb (across n1 * (turn / across n1)) turn) tt e);
       down-parts =
-          eqb→eq (down n2 * (turn / down n2)) turn (at-setting n1 n2 (λ n1 n2. eqb (down n2 * (turn / down n2)) turn) tt e);
+          eqb→eq (down n2 * (turn / down n2)) turn
+          (at-setting n1 n2 (λ n1 n2. eqb (down n2 * (turn / down n2)) turn) tt e);
       bits = leb→le (across n1 * down n2) 256 (at-setting n1 n2 (λ n1 n2. leb (across n1 * down n2) 256) tt e);
     }
 
@@ -81,24 +89,14 @@ pub mask-bits : (n1 n2 : ℕ) → isSetting n1 n2 ≡ true → (n1 ≡ 1 → ⊥
 unfolding settings maskBytes
 mask-bits n1 n2 e more =
     eqb→eq (8 * maskBytes n1 n2) (across n1 * down n2)
-    (or-else (eqb n1 1) (eqb (8 * maskBytes n1 n2) (across n1 * down n2))
-    (λ q. more (eqb→eq n1 1 q))
-    (at-setting n1 n2 (λ a b. eqb a 1 || eqb (8 * maskBytes a b) (across a * down b)) tt e))
+    (above-two n1 n2 (λ a b. eqb (8 * maskBytes a b) (across a * down b)) tt e more)
 
 pub mask-few : (n1 n2 : ℕ) → isSetting n1 n2 ≡ true → maskBytes n1 n2 ≤ 32
 unfolding settings maskBytes
 mask-few n1 n2 e = leb→le (maskBytes n1 n2) 32 (at-setting n1 n2 (λ a b. leb (maskBytes a b) 32) tt e)
 
 pub o1-few : (n1 : ℕ) → o1 n1 ≤ 4
-o1-few n1 = go (twoPorts n1)
-  where
-    go : (t : Bool) → cond t 1 4 ≤ 4
-    go true = lit≤ tt
-    go false = lit≤ tt
+o1-few n1 = cond-both (λ o. o ≤ 4) (twoPorts n1) (lit≤ tt) (lit≤ tt)
 
 pub o2-few : (n2 : ℕ) → o2 n2 ≤ 4
-o2-few n2 = go (ltb 1 n2)
-  where
-    go : (t : Bool) → cond t 4 1 ≤ 4
-    go true = lit≤ tt
-    go false = lit≤ tt
+o2-few n2 = cond-both (λ o. o ≤ 4) (ltb 1 n2) (lit≤ tt) (lit≤ tt)

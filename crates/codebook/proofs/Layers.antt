@@ -5,7 +5,7 @@ use mathlib.Core.List.{List, [], _∷_, _++_, map, append-nil, append-assoc}
 use Prim.Native.Nat.{ℕ, zero, suc, _+_, _-_, _*_, _/_, _%_, _<_, _≤_}
 use native.Mathlib.Nat.{zero-mul, not-suc-le-zero, le-of-suc-le-suc}
 use native.Mathlib.Omega.{arith}
-use lib.Dec.{T, eqb, leb, ltb, eqb→eq, leb→le, ltb→lt, lit≤}
+use lib.Dec.{T, eqb, leb, ltb, eqb→eq, leb→le, ltb→lt}
 use lib.ListN.{length, getD, take, length-append, length-map, List·getD-map}
 use lib.Seq.{length-take-le, getD-take}
 use Rattle.turn.specs.Phase.{phase}
@@ -15,10 +15,11 @@ use Rattle.turn.proofs.Tests.{and-left, and-right, or-else, every, every-at}
 use Rattle.codebook.specs.declared.Report.{Report}
 use Rattle.codebook.specs.Settings.{settings, isSetting, ports}
 use Rattle.codebook.specs.Columns.{Bracket, _⨾_, ranks, quarters, halfLength, beams}
-use Rattle.codebook.specs.Matrix.{join, Layer, fOf, tOf, whole, quartered, layers, blocks, rows, block, columnOf, matrix}
+use Rattle.codebook.specs.Matrix.{Layer, fOf, tOf, whole, quartered, layers}
+use Rattle.codebook.specs.Matrix.{join, blocks, rows, block, columnOf, matrix}
 use Rattle.codebook.specs.Refusals.{InRange}
-use Rattle.codebook.proofs.Bits.{none, counted, length-offsets, length-beams}
 use Rattle.codebook.proofs.Known.{Known, known, at-setting}
+use Rattle.codebook.proofs.Bits.{none, counted, counted-some, length-offsets, length-beams}
 
 -- ---- half-length beams
 
@@ -51,6 +52,13 @@ even-rows n1 n2 e h =
 
 -- ---- layers
 
+-- the brackets of a report's rank, and for half-length beams what is added to the quarters
+abbrev brackets : Report → List Bracket
+brackets r = getD ranks (r .v - 1) []
+
+abbrev halves : Report → List (List ℕ)
+halves r = quarters (fOf r) (tOf r)
+
 -- one list more
 pub join-next : {A : Type 0} (f : A → List ℕ) (xs : List A) (j : ℕ) (x : A) → j < length xs
     → join (map f (take (suc j) xs)) ≡ join (map f (take j xs)) ++ f (getD xs j x)
@@ -72,17 +80,12 @@ pub length-layers : (r : Report) → InRange r → length (layers r) ≡ r .v
 unfolding layers quarters
 length-layers r h = by-length (halfLength r) refl
   where
-    halves : List (List ℕ)
-    halves = take (r .v) (quarters (fOf r) (tOf r))
-
-    brackets : List Bracket
-    brackets = getD ranks (r .v - 1) []
-
-    by-length : (b : Bool) → halfLength r ≡ b → length (cond b (map (quartered r) halves) (map (whole r) brackets)) ≡ r .v
+    by-length : (b : Bool) → halfLength r ≡ b
+        → length (cond b (map (quartered r) (take (r .v) (halves r))) (map (whole r) (brackets r))) ≡ r .v
     by-length true e =
-        length-map halves (quartered r) ∙ length-take-le (r .v) (quarters (fOf r) (tOf r)) (halved r e .few)
+        length-map (take (r .v) (halves r)) (quartered r) ∙ length-take-le (r .v) (halves r) (halved r e .few)
     by-length false e =
-        length-map brackets (whole r)
+        length-map (brackets r) (whole r)
         ∙ length-rank (r .v - 1) (omega (arith, h .some, h .few))
         ∙ omega (arith, h .some)
 
@@ -158,26 +161,29 @@ module _ (r : Report) where
   pub past : Layer
   past = cond (halfLength r) (quartered r []) (whole r (0 ⨾ 0))
 
+  -- layer j of half-length beams, and of whole ones
+  half-layer : halfLength r ≡ true → (j : ℕ) → j < r .v → getD (layers r) j past ≡ quartered r (getD (halves r) j [])
+  unfolding layers past
+  half-layer e j k =
+      rw e (List·getD-map (quartered r) (take (r .v) (halves r)) j [])
+      ∙ ap (quartered r) (getD-take (r .v) (halves r) j [] k)
+
+  whole-layer : halfLength r ≡ false → (j : ℕ) → getD (layers r) j past ≡ whole r (getD (brackets r) j (0 ⨾ 0))
+  unfolding layers past
+  whole-layer e j = rw e (List·getD-map (whole r) (brackets r) j (0 ⨾ 0))
+
   -- a co-phase for each block
   length-co : InRange r → (j : ℕ) → j < r .v → length (getD (layers r) j past .co) ≡ blocks r
-  unfolding layers past
   length-co h j k = by-length (halfLength r) refl
     where
-      halves : List (List ℕ)
-      halves = quarters (fOf r) (tOf r)
-
-      brackets : List Bracket
-      brackets = getD ranks (r .v - 1) []
-
-      by-length : (b : Bool) → halfLength r ≡ b
-          → length (getD (cond b (map (quartered r) (take (r .v) halves)) (map (whole r) brackets)) j (cond b (quartered r []) (whole r (0 ⨾ 0))) .co)
-          ≡ cond b 4 2
+      by-length : (b : Bool) → halfLength r ≡ b → length (getD (layers r) j past .co) ≡ blocks r
       by-length true e =
-          ap (λ (x : Layer). length (x .co)) (List·getD-map (quartered r) (take (r .v) halves) j [])
-          ∙ quarters-co (getD (take (r .v) halves) j [])
-          ∙ ap length (getD-take (r .v) halves j [] k)
+          ap (λ (x : Layer). length (x .co)) (half-layer e j k)
+          ∙ quarters-co (getD (halves r) j [])
           ∙ length-quarters (fOf r) (tOf r) j (omega (arith, halved r e .few))
-      by-length false e = ap (λ (x : Layer). length (x .co)) (List·getD-map (whole r) brackets j (0 ⨾ 0)) ∙ whole-co (getD brackets j (0 ⨾ 0))
+          ∙ rw e
+      by-length false e =
+          ap (λ (x : Layer). length (x .co)) (whole-layer e j) ∙ whole-co (getD (brackets r) j (0 ⨾ 0)) ∙ rw e
 
   -- an entry for each port in each layer
   pub length-matrix : InRange r → length (matrix r) ≡ r .v * ports (r .n1) (r .n2)
@@ -192,7 +198,8 @@ module _ (r : Report) where
 -- ---- the beams of the layers are beams of the report
 
 -- every bracket of every rank names one of the beams of whole length
-brackets-counted : (v j : ℕ) → 1 ≤ v → v ≤ 8 → j < v → getD (getD ranks (v - 1) []) j (0 ⨾ 0) .beam < counted v (eqb v 1 || false)
+brackets-counted : (v j : ℕ) → 1 ≤ v → v ≤ 8 → j < v
+    → getD (getD ranks (v - 1) []) j (0 ⨾ 0) .beam < counted v (eqb v 1 || false)
 unfolding every ranks
 brackets-counted v j some few h =
     let place : ℕ → ℕ → ℕ = λ k j. getD (getD ranks k []) j (0 ⨾ 0) .beam in
@@ -209,32 +216,18 @@ pub record Uses (r : Report) (x : Layer) : Type 0 where
   pub same : x .beam ≡ getD (beams r) place none
 
 pub layers-use : (r : Report) → InRange r → (j : ℕ) → j < r .v → Uses r (getD (layers r) j (past r))
-unfolding layers past
 layers-use r h j k = by-length (halfLength r) refl
   where
-    halves : List (List ℕ)
-    halves = take (r .v) (quarters (fOf r) (tOf r))
-
-    brackets : List Bracket
-    brackets = getD ranks (r .v - 1) []
-
-    some : (a b d : Bool) → 1 ≤ cond a 4 (cond b 3 (cond d 1 2))
-    some true b d = lit≤ tt
-    some false true d = lit≤ tt
-    some false false true = lit≤ tt
-    some false false false = lit≤ tt
-
-    by-length : (b : Bool) → halfLength r ≡ b
-        → Uses r (getD (cond b (map (quartered r) halves) (map (whole r) brackets)) j (cond b (quartered r []) (whole r (0 ⨾ 0))))
+    by-length : (b : Bool) → halfLength r ≡ b → Uses r (getD (layers r) j (past r))
     by-length true e =
         record {
           place = 0;
-          within = rw (length-beams r, length-offsets r) (some (leb 7 (r .v)) (leb 5 (r .v)) (eqb (r .v) 1 || halfLength r));
-          same = ap (λ (x : Layer). x .beam) (List·getD-map (quartered r) halves j []) ∙ quartered-beam r (getD halves j []);
+          within = rw (length-beams r, length-offsets r) (counted-some (r .v) (eqb (r .v) 1 || halfLength r));
+          same = ap (λ (x : Layer). x .beam) (half-layer r e j k) ∙ quartered-beam r (getD (halves r) j []);
         }
     by-length false e =
         record {
-          place = getD brackets j (0 ⨾ 0) .beam;
+          place = getD (brackets r) j (0 ⨾ 0) .beam;
           within = rw (length-beams r, length-offsets r, e) (brackets-counted (r .v) j (h .some) (h .few) k);
-          same = ap (λ (x : Layer). x .beam) (List·getD-map (whole r) brackets j (0 ⨾ 0)) ∙ whole-beam r (getD brackets j (0 ⨾ 0));
+          same = ap (λ (x : Layer). x .beam) (whole-layer r e j) ∙ whole-beam r (getD (brackets r) j (0 ⨾ 0));
         }

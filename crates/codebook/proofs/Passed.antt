@@ -1,5 +1,5 @@
 -- What is known of a report that passes the tests of the refusals. Assumes nothing.
-use mathlib.Core.Path.{_≡_, refl, sym, _∙_}
+use mathlib.Core.Path.{_≡_, refl, sym, ap, _∙_}
 use mathlib.Core.Bool.{Bool, true, false, _||_}
 use mathlib.Core.List.{List, _++_}
 use Prim.Native.Nat.{ℕ, zero, suc, _*_, _<_, _≤_}
@@ -10,7 +10,8 @@ use borrow.Author.Tests.{not-false, eqb-true, eqb-false, lt-ltb, le-ltb, ltb-fal
 use Rattle.codebook.specs.declared.Report.{Report}
 use Rattle.codebook.specs.Settings.{isSetting, ports, maskBytes}
 use Rattle.codebook.specs.Masks.{barred, rankBarred}
-use Rattle.codebook.specs.Refusals.{first, onSetting, onRank, onIndices, onAnswer, refusals, refusal, InRange, refused, accepted, judged}
+use Rattle.codebook.specs.Refusals.{first, onSetting, onRank, onIndices, onAnswer, refusals, refusal}
+use Rattle.codebook.specs.Refusals.{InRange, refused, accepted, judged}
 use Rattle.codebook.proofs.Booleans.{or-false}
 use Rattle.codebook.proofs.First.{None, first-stop, first-none, none-first}
 
@@ -22,10 +23,6 @@ module _ (r : Report) where
   pub rank-none : (ranks : ℕ) → first (onRank r ranks) ≡ 0 → None (onRank r ranks)
   unfolding onRank
   rank-none ranks e = first-none (onRank r ranks) tt e
-
-  pub indices-none : first (onIndices r) ≡ 0 → None (onIndices r)
-  unfolding onIndices
-  indices-none e = first-none (onIndices r) tt e
 
   pub is-setting : (bytes : ℕ) → None (onSetting r bytes) → isSetting (r .n1) (r .n2) ≡ true
   unfolding onSetting
@@ -109,9 +106,10 @@ module _ (r : Report) (mask : List ℕ) (ranks : ℕ) where
       unfolding onAnswer first
       not-refused b h = sym (after-early ∙ rw (b, le-ltb _ _ h))
 
-pub judged-refused : (r : Report) (k : ℕ) → (k ≡ 0 → ⊥) → refused k ≡ judged r k
-judged-refused r zero h = absurd (h refl)
-judged-refused r (suc k) h = refl
+-- a number that is not 0 is given with zeros
+pub refused-judged : (r : Report) (k n : ℕ) → (k ≡ 0 → ⊥) → k ≡ n → refused k ≡ judged r n
+refused-judged r zero n h e = absurd (h refl)
+refused-judged r (suc k) n h e = ap (judged r) e
 
 pub judged-number : (r : Report) (k : ℕ) → judged r k .refusal ≡ k
 unfolding accepted

@@ -10,56 +10,54 @@ use borrow.Author.Tests.{eq-eqb, ne-eqb, le-leb, lt-leb, leb-false}
 use Rattle.turn.proofs.Tests.{and-left, and-right, or-else, two-le}
 use Rattle.codebook.specs.declared.Report.{Report}
 use Rattle.codebook.specs.declared.Beam.{Beam}
-use Rattle.codebook.specs.Settings.{settings, isSetting, ports}
+use Rattle.codebook.specs.Settings.{settings, isSetting, ports, twoPorts}
 use Rattle.codebook.specs.Columns.{beam, halfLength, kTwo, kThree, kRows, i13Values}
 use Rattle.codebook.specs.Refusals.{Near}
-use Rattle.codebook.proofs.Known.{holds, at-setting}
+use Rattle.codebook.proofs.Booleans.{cond-both}
+use Rattle.codebook.proofs.Known.{above-two}
+
+-- how many rows there are by the number of antennas N1·N2: at v = 2, and at v = 3 and 4
+abbrev pub rowsTwo : ℕ → ℕ
+rowsTwo w = cond (eqb w 2) 2 4
+
+abbrev pub rowsThree : ℕ → ℕ
+rowsThree w = cond (eqb w 2) 1 (cond (eqb w 4) 3 4)
 
 module _ (n1 n2 : ℕ) (set : isSetting n1 n2 ≡ true) (more : n1 ≡ 1 → ⊥) where
-  -- a test that passes at every setting above two ports passes at this one
-  above-two : (f : ℕ → ℕ → Bool) → T (holds (λ a b. eqb a 1 || f a b) settings) → T (f n1 n2)
-  above-two f t = or-else (eqb n1 1) (f n1 n2) (λ e. more (eqb→eq n1 1 e)) (at-setting n1 n2 (λ a b. eqb a 1 || f a b) t set)
-
-  pub two-rows : length (kTwo n1 n2) ≡ cond (eqb (n1 * n2) 2) 2 4
+  pub two-rows : length (kTwo n1 n2) ≡ rowsTwo (n1 * n2)
   unfolding kTwo settings
   two-rows =
-      eqb→eq (length (kTwo n1 n2)) (cond (eqb (n1 * n2) 2) 2 4)
-      (above-two (λ a b. eqb (length (kTwo a b)) (cond (eqb (a * b) 2) 2 4)) tt)
+      eqb→eq (length (kTwo n1 n2)) (rowsTwo (n1 * n2))
+      (above-two n1 n2 (λ a b. eqb (length (kTwo a b)) (rowsTwo (a * b))) tt set more)
 
-  pub three-rows : n1 * n2 < 8 → length (kThree n1 n2) ≡ cond (eqb (n1 * n2) 2) 1 (cond (eqb (n1 * n2) 4) 3 4)
+  pub three-rows : n1 * n2 < 8 → length (kThree n1 n2) ≡ rowsThree (n1 * n2)
   unfolding kThree settings
   three-rows few =
-      eqb→eq (length (kThree n1 n2)) (cond (eqb (n1 * n2) 2) 1 (cond (eqb (n1 * n2) 4) 3 4))
-      (or-else (leb 8 (n1 * n2)) (eqb (length (kThree n1 n2)) (cond (eqb (n1 * n2) 2) 1 (cond (eqb (n1 * n2) 4) 3 4)))
-      (λ e. let h = leb→le 8 (n1 * n2) e in omega arith)
-      (above-two (λ a b. leb 8 (a * b) || eqb (length (kThree a b)) (cond (eqb (a * b) 2) 1 (cond (eqb (a * b) 4) 3 4))) tt))
+      eqb→eq (length (kThree n1 n2)) (rowsThree (n1 * n2))
+      (or-else (leb 8 (n1 * n2)) (eqb (length (kThree n1 n2)) (rowsThree (n1 * n2)))
+      (λ e. let many = leb→le 8 (n1 * n2) e in omega arith)
+      (above-two n1 n2 (λ a b. leb 8 (a * b) || eqb (length (kThree a b)) (rowsThree (a * b))) tt set more))
 
   pub two-rows-few : length (kTwo n1 n2) ≤ 4
-  two-rows-few = rw two-rows (go (eqb (n1 * n2) 2))
-    where
-      go : (b : Bool) → cond b 2 4 ≤ 4
-      go true = lit≤ tt
-      go false = lit≤ tt
+  two-rows-few = rw two-rows (cond-both (λ n. n ≤ 4) (eqb (n1 * n2) 2) (lit≤ tt) (lit≤ tt))
 
   -- N2 is at most N1
   pub wide : n2 ≤ n1
   unfolding settings
-  wide = leb→le n2 n1 (above-two (λ a b. leb b a) tt)
+  wide = leb→le n2 n1 (above-two n1 n2 (λ a b. leb b a) tt set more)
+
+-- at most four
+abbrev Few : List Beam → Type 0
+Few ks = length ks ≤ 4
 
 pub three-rows-few : (n1 n2 : ℕ) → length (kThree n1 n2) ≤ 4
 unfolding kThree
-three-rows-few n1 n2 = go (eqb n2 1) (eqb n1 2) (eqb n1 4)
-  where
-    go : (a b c : Bool)
-        → length (cond a
-        (cond b (beam 1 0 ∷ [])
-        (cond c (beam 1 0 ∷ beam 2 0 ∷ beam 3 0 ∷ []) (beam 1 0 ∷ beam 2 0 ∷ beam 3 0 ∷ beam 4 0 ∷ [])))
-        (cond b (beam 1 0 ∷ beam 0 1 ∷ beam 1 1 ∷ []) (beam 1 0 ∷ beam 0 1 ∷ beam 1 1 ∷ beam 2 0 ∷ []))) ≤ 4
-    go true true c = lit≤ tt
-    go true false true = lit≤ tt
-    go true false false = lit≤ tt
-    go false true c = lit≤ tt
-    go false false c = lit≤ tt
+three-rows-few n1 n2 =
+    cond-both Few (eqb n2 1 && eqb n1 2)
+    (lit≤ tt)
+    (cond-both Few (eqb n2 1 && eqb n1 4)
+    (lit≤ tt)
+    (cond-both Few (eqb n2 1) (lit≤ tt) (cond-both Few (eqb n1 2) (lit≤ tt) (lit≤ tt))))
 
 -- ---- the rows of a report
 
@@ -106,38 +104,45 @@ module _ (r : Report) (whole : halfLength r ≡ false) where
 pub record AllNear (xs : List Beam) : Type 0 where
   pub at : (i : ℕ) → Near (getD xs i (beam 0 0))
 
-near : Beam → Bool
-near x = leb (x .l) 255 && leb (x .m) 255
+abbrev pub isNear : Beam → Bool
+isNear x = leb (x .l) 255 && leb (x .m) 255
 
-nears : List Beam → Bool
-nears [] = true
-nears (x ∷ xs) = near x && nears xs
+areNear : List Beam → Bool
+areNear [] = true
+areNear (x ∷ xs) = isNear x && areNear xs
 
-is-near : (x : Beam) → T (near x) → Near x
-unfolding near
+-- a beam of known numbers is near by its test
+pub is-near : (x : Beam) → T (isNear x) → Near x
 is-near x t = let e = two-le (x .l) 255 (x .m) 255 t in record { l = e .0; m = e .1 }
 
-near-at : (xs : List Beam) → T (nears xs) → (i : ℕ) → Near (getD xs i (beam 0 0))
-unfolding nears
-near-at [] t i = record { l = lit≤ tt; m = lit≤ tt }
-near-at (x ∷ xs) t zero = is-near x (and-left (near x) (nears xs) t)
-near-at (x ∷ xs) t (suc i) = near-at xs (and-right (near x) (nears xs) t) i
+near-at : (xs : List Beam) → T (areNear xs) → (i : ℕ) → Near (getD xs i (beam 0 0))
+unfolding areNear
+near-at [] t i = is-near (beam 0 0) tt
+near-at (x ∷ xs) t zero = is-near x (and-left (isNear x) (areNear xs) t)
+near-at (x ∷ xs) t (suc i) = near-at xs (and-right (isNear x) (areNear xs) t) i
 
-all-near : (xs : List Beam) → T (nears xs) → AllNear xs
+all-near : (xs : List Beam) → T (areNear xs) → AllNear xs
 all-near xs t = record { at = near-at xs t }
 
-near-cond : (b : Bool) {xs ys : List Beam} → AllNear xs → AllNear ys → AllNear (cond b xs ys)
-near-cond true p q = p
-near-cond false p q = q
+two-near : (n1 n2 : ℕ) → AllNear (kTwo n1 n2)
+unfolding kTwo areNear
+two-near n1 n2 =
+    cond-both AllNear (ltb 1 n2 && ltb n2 n1)
+    (all-near _ tt)
+    (cond-both AllNear (eqb n1 n2) (all-near _ tt) (cond-both AllNear (eqb n1 2) (all-near _ tt) (all-near _ tt)))
+
+three-near : (n1 n2 : ℕ) → AllNear (kThree n1 n2)
+unfolding kThree areNear
+three-near n1 n2 =
+    cond-both AllNear (eqb n2 1 && eqb n1 2)
+    (all-near _ tt)
+    (cond-both AllNear (eqb n2 1 && eqb n1 4)
+    (all-near _ tt)
+    (cond-both AllNear (eqb n2 1) (all-near _ tt) (cond-both AllNear (eqb n1 2) (all-near _ tt) (all-near _ tt))))
 
 pub rows-near : (r : Report) → AllNear (kRows r)
-unfolding kRows kTwo kThree nears near
+unfolding kRows areNear
 rows-near r =
-    near-cond (halfLength r || eqb (r .n1) 1 || eqb (r .v) 1 || leb 5 (r .v))
+    cond-both AllNear (halfLength r || twoPorts (r .n1) || eqb (r .v) 1 || leb 5 (r .v))
     (all-near _ tt)
-    (near-cond (eqb (r .v) 2)
-    (near-cond (ltb 1 (r .n2) && ltb (r .n2) (r .n1)) (all-near _ tt)
-    (near-cond (eqb (r .n1) (r .n2)) (all-near _ tt) (near-cond (eqb (r .n1) 2) (all-near _ tt) (all-near _ tt))))
-    (near-cond (eqb (r .n2) 1)
-    (near-cond (eqb (r .n1) 2) (all-near _ tt) (near-cond (eqb (r .n1) 4) (all-near _ tt) (all-near _ tt)))
-    (near-cond (eqb (r .n1) 2) (all-near _ tt) (all-near _ tt))))
+    (cond-both AllNear (eqb (r .v) 2) (two-near (r .n1) (r .n2)) (three-near (r .n1) (r .n2)))

@@ -82,10 +82,9 @@ kTwo n1 n2 =
 -- those at v = 3 and 4 for P < 16: (2,1), (4,1), (6,1); (2,2), (3,2)
 unfoldable pub kThree : ℕ → ℕ → List Beam
 kThree n1 n2 =
-    eqb n2 1 ⇒ (
-    eqb n1 2 ⇒ beam 1 0 ∷ []
-    ∣ eqb n1 4 ⇒ beam 1 0 ∷ beam 2 0 ∷ beam 3 0 ∷ []
-    ∣ beam 1 0 ∷ beam 2 0 ∷ beam 3 0 ∷ beam 4 0 ∷ [])
+    eqb n2 1 && eqb n1 2 ⇒ beam 1 0 ∷ []
+    ∣ eqb n2 1 && eqb n1 4 ⇒ beam 1 0 ∷ beam 2 0 ∷ beam 3 0 ∷ []
+    ∣ eqb n2 1 ⇒ beam 1 0 ∷ beam 2 0 ∷ beam 3 0 ∷ beam 4 0 ∷ []
     ∣ eqb n1 2 ⇒ beam 1 0 ∷ beam 0 1 ∷ beam 1 1 ∷ []
     ∣ beam 1 0 ∷ beam 0 1 ∷ beam 1 1 ∷ beam 2 0 ∷ []
 
@@ -96,16 +95,14 @@ kRows r =
     ∣ eqb (r .v) 2 ⇒ kTwo (r .n1) (r .n2)
     ∣ kThree (r .n1) (r .n2)
 
--- how far B, B', .. stand from B, in steps of (O1,O2), at v = 5 and 6
+-- how far B, B', .. stand from B, in steps of (O1,O2): at v = 5 and 6, at v = 7 and 8, and at every rank
 abbrev pub fiveSix : ℕ → List Beam
 fiveSix n2 = ltb 1 n2 ⇒ beam 0 0 ∷ beam 1 0 ∷ beam 1 1 ∷ [] ∣ beam 0 0 ∷ beam 1 0 ∷ beam 2 0 ∷ []
 
--- at v = 7 and 8
 abbrev pub sevenEight : ℕ → List Beam
 sevenEight n2 =
     ltb 1 n2 ⇒ beam 0 0 ∷ beam 1 0 ∷ beam 0 1 ∷ beam 1 1 ∷ [] ∣ beam 0 0 ∷ beam 1 0 ∷ beam 2 0 ∷ beam 3 0 ∷ []
 
--- and at every rank
 unfoldable pub offsets : Report → List Beam
 offsets r =
     leb 7 (r .v) ⇒ sevenEight (r .n2)

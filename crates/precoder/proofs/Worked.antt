@@ -8,7 +8,8 @@ use Rattle.turn.specs.Column.{steps, product, grid, step, column}
 use Rattle.turn.specs.Exact.{count, differences}
 use Rattle.codebook.specs.declared.Report.{Report}
 use Rattle.codebook.specs.Settings.{some, settings, isSetting, maskBytes}
-use Rattle.codebook.specs.Columns.{ranks, quarters, modeTwo, halfLength, n, base, kTwo, kThree, kRows, offsets, moved, beams}
+use Rattle.codebook.specs.Columns.{ranks, quarters, modeTwo, halfLength, n, base}
+use Rattle.codebook.specs.Columns.{kTwo, kThree, kRows, offsets, moved, beams}
 use Rattle.codebook.specs.Columns.{halvesI11, i11Values, halvesI12, i12Values, i13Values, i2Values}
 use Rattle.codebook.specs.Matrix.{join, addedOf, whole, quartered, layers, block, columnOf, matrix}
 use Rattle.codebook.specs.Masks.{bit, beamBit, twoPortBit, bitsRead, isZero, barred, rankBarred}

@@ -4,7 +4,7 @@ ghost use mathlib.Core.List.{[], _∷_, _++_, map};
 ghost use Prim.Native.Nat.{_+_, _*_, _<_, _≤_};
 ghost use lib.ListN.{length, take, drop, getD};
 ghost use Rattle.turn.specs.Phase.{turn, phase};
-ghost use Rattle.turn.specs.Column.{steps, grid, column};
+ghost use Rattle.turn.specs.Column.{steps, column};
 ghost use Rattle.precoder.specs.Layer.{Reduced, Drawn, columnIn, size};
 
 // A layer as it is written: `blocks` blocks of `rows` by `columns` entries, `across` more from row to row and `down`

@@ -1,4 +1,4 @@
--- `codebook::beams::blocks_of` meets its contract: each way out has its case. Assumes nothing.
+-- `beams::blocks_of` meets its contract: its two ways out are those of the definition. Assumes nothing.
 use mathlib.Core.Path.{sym, _∙_}
 use borrow.Author.Needs.{needs}
 use Rattle.codebook.proofs.beams.blocks_of.Statement.{statement}

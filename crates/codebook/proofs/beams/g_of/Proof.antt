@@ -1,4 +1,4 @@
--- `codebook::beams::g_of` meets its contract: each way out has its case. Assumes nothing.
+-- `beams::g_of` meets its contract: its test is that of the definition. Assumes nothing.
 use borrow.Author.Tests.{eq-eqb, ne-eqb}
 use Rattle.codebook.proofs.beams.g_of.Statement.{statement}
 use Rattle.codebook.proofs.beams.g_of.Tie as tie

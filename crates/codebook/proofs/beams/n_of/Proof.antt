@@ -1,4 +1,4 @@
--- `codebook::beams::n_of` meets its contract: each way out has its case. Assumes nothing.
+-- `beams::n_of` meets its contract: its two ways out are those of the definition, and g is not 0. Assumes nothing.
 use mathlib.Core.Path.{sym, _∙_}
 use borrow.Author.Needs.{needs}
 use Rattle.codebook.specs.Columns.{n}
@@ -13,15 +13,15 @@ g-of-requires : tie.Need-g-of-requires
 g-of-requires c κs = search needs
 
 rem-result : tie.Need-rem-result
-rem-result c = rw (c .before .g-of .ensures) (g-some (c .before .before .before .before .args .r .v))
+rem-result c =
+    let g = c .before in
+    rw (g .g-of .ensures) (g-some (g .before .before .before .args .r .v))
 
 returns : tie.Need-returns
 unfolding n
 returns c =
-    rw (
-      c .before .g-of .ensures,
-      sym (c .before .before .before .is-mode-two .ensures) ∙ c .before .before .if1 .taken,
-    )
+    let t = c .before .before in
+    rw (c .before .g-of .ensures, sym (t .before .is-mode-two .ensures) ∙ t .if1 .taken)
 
 returns-2 : tie.Need-returns-2
 unfolding n

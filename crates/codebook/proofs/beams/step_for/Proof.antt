@@ -1,4 +1,4 @@
--- `codebook::beams::step_for` meets its contract: each way out has its case. Assumes nothing.
+-- `beams::step_for` meets its contract: its test is that of the definition. Assumes nothing.
 use borrow.Author.Tests.{lt-ltb, le-ltb}
 use Rattle.codebook.proofs.beams.step_for.Statement.{statement}
 use Rattle.codebook.proofs.beams.step_for.Tie as tie

@@ -1,4 +1,5 @@
--- `codebook::masks::bit_at` meets its contract: a byte is shifted and its lowest bit taken. Assumes nothing.
+-- `masks::bit_at` meets its contract: a shift to the right divides by a power of two, and bit k lies in byte k / 8.
+-- Assumes nothing.
 use Prim.Native.Nat.{_/_}
 use native.Mathlib.Omega.{arith}
 use borrow.Author.Needs.{needs}

@@ -1,10 +1,24 @@
--- `codebook::ranges::halves_i11` meets its contract: each way out has its case. Assumes nothing.
-use mathlib.Core.Path.{sym, _∙_}
+-- `ranges::halves_i11` meets its contract: the tests are those of the definition, in its order. Assumes nothing.
+use mathlib.Core.Path.{_≡_, sym, _∙_}
+use mathlib.Core.Bool.{false, _&&_}
+use native.Mathlib.Omega.{arith}
+use lib.Dec.{eqb, leb}
 use borrow.Author.Needs.{needs}
 use borrow.Author.Tests.{eq-eqb, ne-eqb, le-leb, lt-leb}
-use Rattle.codebook.specs.Columns.{halvesI11}
+use Rattle.codebook.specs.Columns.{modeTwo, halvesI11}
 use Rattle.codebook.proofs.ranges.halves_i11.Statement.{statement}
 use Rattle.codebook.proofs.ranges.halves_i11.Tie as tie
+
+-- mode 2 does not act
+mode-one : (c : tie.Else1) → modeTwo (c .before .before .args .r) ≡ false
+mode-one c = sym (c .before .is-mode-two .ensures) ∙ c .if1 .left
+
+-- nor are the beams half-length: the last case is left
+last : (c : tie.Else2)
+    → let r = c .before .before .before .before .args .r in
+    halvesI11 r ≡ (leb 7 (r .v) && eqb (r .n1) 4 && eqb (r .n2) 1)
+unfolding halvesI11
+last c = rw (mode-one (c .before .before), sym (c .before .is-half-length .ensures) ∙ c .if2 .left)
 
 is-mode-two-requires : tie.Need-is-mode-two-requires
 is-mode-two-requires c κs = search needs
@@ -18,40 +32,25 @@ is-half-length-requires c κs = search needs
 
 returns-2 : tie.Need-returns-2
 unfolding halvesI11
-returns-2 c =
-    rw (
-      sym (c .before .before .before .is-mode-two .ensures) ∙ c .before .before .if1 .left,
-      sym (c .before .is-half-length .ensures) ∙ c .if2 .taken,
-    )
+returns-2 c = rw (mode-one (c .before .before), sym (c .before .is-half-length .ensures) ∙ c .if2 .taken)
 
 returns-3 : tie.Need-returns-3
-unfolding halvesI11
 returns-3 c =
-    rw (
-      sym (c .before .before .before .before .before .is-mode-two .ensures) ∙ c .before .before .before .before .if1 .left,
-      sym (c .before .before .before .is-half-length .ensures) ∙ c .before .before .if2 .left,
-      lt-leb _ _ (c .if3 .taken),
-    )
+    let e = c .before .before in
+    let r = e .before .before .before .before .args .r in
+    rw (last e, lt-leb 7 (r .v) (omega arith))
 
 returns-4 : tie.Need-returns-4
-unfolding halvesI11
 returns-4 c =
-    rw (
-      sym (c .before .before .before .before .before .before .before .is-mode-two .ensures) ∙ c .before .before .before .before .before .before .if1 .left,
-      sym (c .before .before .before .before .before .is-half-length .ensures) ∙ c .before .before .before .before .if2 .left,
-      le-leb _ _ (c .before .before .if3 .left),
-      ne-eqb _ _ (c .if4 .taken),
-    )
+    let e = c .before .before .before .before in
+    let r = e .before .before .before .before .args .r in
+    rw (last e, le-leb 7 (r .v) (omega arith), ne-eqb (r .n1) 4 (c .if4 .taken))
 
 returns-5 : tie.Need-returns-5
-unfolding halvesI11
 returns-5 c =
-    rw (
-      sym (c .before .before .before .before .before .before .before .before .is-mode-two .ensures) ∙ c .before .before .before .before .before .before .before .if1 .left,
-      sym (c .before .before .before .before .before .before .is-half-length .ensures) ∙ c .before .before .before .before .before .if2 .left,
-      le-leb _ _ (c .before .before .before .if3 .left),
-      eq-eqb _ _ (c .before .if4 .left),
-    )
+    let e = c .before .before .before .before .before in
+    let r = e .before .before .before .before .args .r in
+    rw (last e, le-leb 7 (r .v) (omega arith), eq-eqb (r .n1) 4 (c .before .if4 .left))
 
 pub halves-i11-spec : {M : Type 1} → statement M
 halves-i11-spec =

@@ -1,4 +1,4 @@
--- `codebook::ranges::i12_values` meets its contract: both ways out are the two cases of the definition. Assumes nothing.
+-- `ranges::i12_values` meets its contract: its two ways out are those of the definition. Assumes nothing.
 use mathlib.Core.Path.{sym, _∙_}
 use borrow.Author.Needs.{needs}
 use Rattle.codebook.specs.Columns.{i12Values}

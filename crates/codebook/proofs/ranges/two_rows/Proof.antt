@@ -1,4 +1,4 @@
--- `codebook::ranges::two_rows` meets its contract: a test over the settings gives the number of rows. Assumes nothing.
+-- `ranges::two_rows` meets its contract: at every setting N1·N2 tells how many rows there are. Assumes nothing.
 use native.Mathlib.Omega.{arith}
 use borrow.Author.Tests.{eq-eqb, ne-eqb}
 use Rattle.codebook.proofs.Known.{known}

@@ -1,4 +1,4 @@
--- `codebook::refusals::is_mode` meets its contract: each way out has its case. Assumes nothing.
+-- `refusals::is_mode` meets its contract: the tests are those of the definition, in its order. Assumes nothing.
 use borrow.Author.Tests.{eq-eqb, ne-eqb}
 use Rattle.codebook.proofs.refusals.is_mode.Statement.{statement}
 use Rattle.codebook.proofs.refusals.is_mode.Tie as tie

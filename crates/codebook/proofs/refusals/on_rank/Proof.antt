@@ -1,4 +1,4 @@
--- `codebook::refusals::on_rank` meets its contract: each way out has its case. Assumes nothing.
+-- `refusals::on_rank` meets its contract: the tests are those of the refusals, in their order. Assumes nothing.
 use mathlib.Core.Path.{_≡_}
 use mathlib.Core.Bool.{false, _||_}
 use lib.Dec.{eqb, ltb}
@@ -10,34 +10,36 @@ use Rattle.codebook.specs.Refusals.{first, onRank}
 use Rattle.codebook.proofs.refusals.on_rank.Statement.{statement}
 use Rattle.codebook.proofs.refusals.on_rank.Tie as tie
 
+-- one to eight layers
+ranked : (c : tie.Else2)
+    → let v = c .before .before .before .before .args .r .v in
+    (eqb v 0 || ltb 8 v) ≡ false
+ranked c = rw (ne-eqb _ 0 (c .before .before .if1 .left), le-ltb 8 _ (c .if2 .left))
+
 -- refusal 4 does not apply
 fits : (c : tie.Else3)
-    → let r = c .before .before .before .before .before .before .before .args .r in (eqb (r .v) 0 || ltb 8 (r .v) || ltb (ports (r .n1) (r .n2)) (r .v)) ≡ false
+    → let r = c .before .before .before .before .before .before .before .args .r in
+    (eqb (r .v) 0 || ltb 8 (r .v) || ltb (ports (r .n1) (r .n2)) (r .v)) ≡ false
 fits c =
-    rw (
-      ne-eqb _ _ (c .before .before .before .before .before .if1 .left),
-      le-ltb _ _ (c .before .before .before .if2 .left),
-      le-ltb _ _ (rw (c .before .before .ports-of .ensures) at (c .if3 .left)),
-    )
+    let p = c .before .before in
+    rw (ranked (p .before), le-ltb _ _ (rw (p .ports-of .ensures) at (c .if3 .left)))
 
 returns : tie.Need-returns
 unfolding onRank first
-returns c = rw (eq-eqb _ _ (c .if1 .taken))
+returns c = rw (eq-eqb _ 0 (c .if1 .taken))
 
 returns-2 : tie.Need-returns-2
 unfolding onRank first
-returns-2 c = rw (ne-eqb _ _ (c .before .before .if1 .left), lt-ltb _ _ (c .if2 .taken))
+returns-2 c = rw (ne-eqb _ 0 (c .before .before .if1 .left), lt-ltb 8 _ (c .if2 .taken))
 
 ports-of-requires : tie.Need-ports-of-requires
 ports-of-requires c κs = search needs
 
 returns-3 : tie.Need-returns-3
 unfolding onRank first
-returns-3 c = rw (
-  ne-eqb _ _ (c .before .before .before .before .before .if1 .left),
-  le-ltb _ _ (c .before .before .before .if2 .left),
-  lt-ltb _ _ (rw (c .before .before .ports-of .ensures) at (c .if3 .taken)),
-)
+returns-3 c =
+    let p = c .before .before in
+    rw (ranked (p .before), lt-ltb _ _ (rw (p .ports-of .ensures) at (c .if3 .taken)))
 
 sub-bit : tie.Need-sub-bit
 sub-bit c = search needs

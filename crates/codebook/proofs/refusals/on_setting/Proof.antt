@@ -1,4 +1,4 @@
--- `codebook::refusals::on_setting` meets its contract: each way out has its case. Assumes nothing.
+-- `refusals::on_setting` meets its contract: the tests are those of the refusals, in their order. Assumes nothing.
 use mathlib.Core.Path.{_≡_, sym, _∙_}
 use mathlib.Core.Bool.{true, _||_}
 use lib.Dec.{eqb}
@@ -9,11 +9,12 @@ use Rattle.codebook.specs.Refusals.{first, onSetting}
 use Rattle.codebook.proofs.refusals.on_setting.Statement.{statement}
 use Rattle.codebook.proofs.refusals.on_setting.Tie as tie
 
-known-setting : (c : tie.Else1) → isSetting (c .before .before .args .r .n1) (c .before .before .args .r .n2) ≡ true
+known-setting : (c : tie.Else1) → let r = c .before .before .args .r in isSetting (r .n1) (r .n2) ≡ true
 known-setting c = sym (c .before .is-setting .ensures) ∙ not-false _ (c .if1 .left)
 
 known-mode : (c : tie.Else2)
-    → (eqb (c .before .before .before .before .args .r .mode) 1 || eqb (c .before .before .before .before .args .r .mode) 2) ≡ true
+    → let mode = c .before .before .before .before .args .r .mode in
+    (eqb mode 1 || eqb mode 2) ≡ true
 known-mode c = sym (c .before .is-mode .ensures) ∙ not-false _ (c .if2 .left)
 
 is-setting-requires : tie.Need-is-setting-requires
@@ -38,19 +39,22 @@ cast-if3 c = search needs
 
 returns-3 : tie.Need-returns-3
 unfolding onSetting first
-returns-3 c = rw (
-  known-setting (c .before .before .before .before),
-  known-mode (c .before .before),
-  ne-eqb _ _ (λ e. c .if3 .taken (e ∙ sym (c .before .mask-bytes-of .ensures))),
-)
+returns-3 c =
+    let b = c .before in
+    rw (
+      known-setting (b .before .before .before),
+      known-mode (b .before),
+      ne-eqb _ _ (λ e. c .if3 .taken (e ∙ sym (b .mask-bytes-of .ensures))),
+    )
 
 returns-4 : tie.Need-returns-4
 unfolding onSetting first
 returns-4 c =
+    let b = c .before in
     rw (
-      known-setting (c .before .before .before .before),
-      known-mode (c .before .before),
-      eq-eqb _ _ (c .if3 .left ∙ c .before .mask-bytes-of .ensures),
+      known-setting (b .before .before .before),
+      known-mode (b .before),
+      eq-eqb _ _ (c .if3 .left ∙ b .mask-bytes-of .ensures),
     )
 
 pub on-setting-spec : {M : Type 1} → statement M

@@ -1,4 +1,4 @@
--- `codebook::settings::across_of` meets its contract: O1 is at most 4. Assumes nothing.
+-- `settings::across_of` meets its contract: it reckons as the definition does, and O1 is at most 4. Assumes nothing.
 use native.Mathlib.Nat.{mul-le-mul}
 use native.Mathlib.Omega.{arith}
 use borrow.Author.Needs.{needs}

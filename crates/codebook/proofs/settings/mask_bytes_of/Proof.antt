@@ -1,4 +1,5 @@
--- `codebook::settings::mask_bytes_of` meets its contract: a setting has at most 256 beams. Assumes nothing.
+-- `settings::mask_bytes_of` meets its contract: its two ways out are those of the definition, and a setting has at most
+-- 256 beams. Assumes nothing.
 use native.Mathlib.Omega.{arith}
 use borrow.Author.Tests.{eq-eqb, ne-eqb}
 use Rattle.codebook.specs.Settings.{maskBytes}
@@ -8,7 +9,7 @@ use Rattle.codebook.proofs.settings.mask_bytes_of.Tie as tie
 
 returns : tie.Need-returns
 unfolding maskBytes
-returns c = rw (eq-eqb _ _ (c .if1 .taken))
+returns c = rw (eq-eqb _ 1 (c .if1 .taken))
 
 across-of-requires : tie.Need-across-of-requires
 across-of-requires c κs = known _ _ (c .before .pre) .n1-few
@@ -17,11 +18,15 @@ down-of-requires : tie.Need-down-of-requires
 down-of-requires c κs = known _ _ (c .before .before .pre) .n2-few
 
 mul-result : tie.Need-mul-result
-mul-result c = rw (c .before .across-of .ensures, c .down-of .ensures) (omega (arith, known _ _ (c .before .before .before .pre) .bits))
+mul-result c =
+    let a = c .before in
+    rw (a .across-of .ensures, c .down-of .ensures) (omega (arith, known _ _ (a .before .before .pre) .bits))
 
 returns-2 : tie.Need-returns-2
 unfolding maskBytes
-returns-2 c = rw (c .before .across-of .ensures, c .down-of .ensures, ne-eqb _ _ (c .before .before .if1 .left))
+returns-2 c =
+    let a = c .before in
+    rw (a .across-of .ensures, c .down-of .ensures, ne-eqb _ 1 (a .before .if1 .left))
 
 pub mask-bytes-of-spec : {M : Type 1} → statement M
 mask-bytes-of-spec =

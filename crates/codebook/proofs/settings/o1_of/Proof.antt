@@ -1,4 +1,4 @@
--- `codebook::settings::o1_of` meets its contract: each way out has its case. Assumes nothing.
+-- `settings::o1_of` meets its contract: its test is that of the definition. Assumes nothing.
 use borrow.Author.Tests.{eq-eqb, ne-eqb}
 use Rattle.codebook.proofs.settings.o1_of.Statement.{statement}
 use Rattle.codebook.proofs.settings.o1_of.Tie as tie

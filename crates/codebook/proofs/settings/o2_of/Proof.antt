@@ -1,4 +1,4 @@
--- `codebook::settings::o2_of` meets its contract: each way out has its case. Assumes nothing.
+-- `settings::o2_of` meets its contract: its test is that of the definition. Assumes nothing.
 use borrow.Author.Tests.{lt-ltb, le-ltb}
 use Rattle.codebook.proofs.settings.o2_of.Statement.{statement}
 use Rattle.codebook.proofs.settings.o2_of.Tie as tie

@@ -1,4 +1,5 @@
--- `codebook::settings::ports_of` meets its contract: a setting has few antennas. Assumes nothing.
+-- `settings::ports_of` meets its contract: it reckons as the definition does, and a setting has at most 16 antennas.
+-- Assumes nothing.
 use native.Mathlib.Omega.{arith}
 use borrow.Author.Needs.{needs}
 use Rattle.codebook.proofs.Known.{known}
