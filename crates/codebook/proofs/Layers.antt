@@ -162,13 +162,13 @@ module _ (r : Report) where
   past = cond (halfLength r) (quartered r []) (whole r (0 ⨾ 0))
 
   -- layer j of half-length beams, and of whole ones
-  half-layer : halfLength r ≡ true → (j : ℕ) → j < r .v → getD (layers r) j past ≡ quartered r (getD (halves r) j [])
+  pub half-layer : halfLength r ≡ true → (j : ℕ) → j < r .v → getD (layers r) j past ≡ quartered r (getD (halves r) j [])
   unfolding layers past
   half-layer e j k =
       rw e (List·getD-map (quartered r) (take (r .v) (halves r)) j [])
       ∙ ap (quartered r) (getD-take (r .v) (halves r) j [] k)
 
-  whole-layer : halfLength r ≡ false → (j : ℕ) → getD (layers r) j past ≡ whole r (getD (brackets r) j (0 ⨾ 0))
+  pub whole-layer : halfLength r ≡ false → (j : ℕ) → getD (layers r) j past ≡ whole r (getD (brackets r) j (0 ⨾ 0))
   unfolding layers past
   whole-layer e j = rw e (List·getD-map (whole r) (brackets r) j (0 ⨾ 0))
 

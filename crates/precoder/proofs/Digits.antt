@@ -1,21 +1,21 @@
 -- The digits of the brackets of a rank stand for the report's layers, one after the other. Assumes nothing.
 use mathlib.Core.Path.{_≡_, refl, sym, ap, ap₂, _∙_}
-use mathlib.Core.Bool.{Bool, true, false, cond, _&&_}
+use mathlib.Core.Bool.{Bool, true, false, _&&_}
 use mathlib.Core.List.{List, [], _∷_, _++_, map}
 use Prim.Native.Nat.{ℕ, zero, suc, _+_, _-_, _*_, _/_, _%_, _<_, _≤_}
 use native.Mathlib.Numerals.{add-one}
 use native.Mathlib.Omega.{arith}
 use lib.Dec.{T, ltb, ltb→lt}
-use lib.ListN.{take, drop, getD, List·getD-map}
+use lib.ListN.{take, drop, getD}
 use lib.Seq.{drop-cons, getD-take}
 use Rattle.turn.specs.Phase.{phase}
 use Rattle.turn.specs.Column.{column}
 use Rattle.turn.proofs.Tests.{and-left, and-right, every, every-at}
 use Rattle.codebook.specs.declared.Report.{Report}
 use Rattle.codebook.specs.Columns.{Bracket, _⨾_, ranks, quarters, beam, halfLength, beams}
-use Rattle.codebook.specs.Matrix.{join, Layer, fOf, tOf, addedOf, whole, quartered, layers, block, columnOf}
+use Rattle.codebook.specs.Matrix.{join, fOf, tOf, addedOf, whole, quartered, layers, block, columnOf}
 use Rattle.codebook.specs.Refusals.{InRange}
-use Rattle.codebook.proofs.Layers.{join-next, halved, length-rank, length-layers}
+use Rattle.codebook.proofs.Layers.{join-next, halved, length-rank, length-layers, past, half-layer, whole-layer}
 use Rattle.precoder.specs.Digit.{bracket, four, layerOf}
 use Rattle.precoder.proofs.Columns.{column-phases}
 
@@ -123,31 +123,18 @@ module _ (r : Report) (h : InRange r) (j : ℕ) (k : j < r .v) where
       ∙ column-phases (four (fOf r) (tOf r) (getD (rank 4) j none)) x
       ∙ ap (λ (b : Bracket). column (four (fOf r) (tOf r) b) x) (sym (this ∙ same))
 
-  -- past the last layer
-  past : Layer
-  past = cond (halfLength r) (quartered r []) (whole r none)
-
   -- the layer that the lowest digit stands for has the column of layer j
-  layer-column : columnOf r (getD (layers r) j past) ≡ lowest r left
-  unfolding layers layerOf past
+  layer-column : columnOf r (getD (layers r) j (past r)) ≡ lowest r left
+  unfolding layerOf
   layer-column = by-length (halfLength r) refl
     where
-      halves : List Layer
-      halves = map (quartered r) (take (r .v) (quarters (fOf r) (tOf r)))
-
-      by-length : (b : Bool) → halfLength r ≡ b
-          → columnOf r (getD (cond b halves (map (whole r) (rank (r .v)))) j (cond b (quartered r []) (whole r none)))
-          ≡ columnOf r (cond b (quartered r (four (fOf r) (tOf r) (bracket (left % 16)))) (whole r (bracket (left % 16))))
-      by-length true e =
-          ap (columnOf r) (List·getD-map (quartered r) (take (r .v) (quarters (fOf r) (tOf r))) j [])
-          ∙ ap (λ (co : List ℕ). columnOf r (quartered r co)) (getD-take (r .v) (quarters (fOf r) (tOf r)) j [] k)
-          ∙ quarters-column e
+      by-length : (b : Bool) → halfLength r ≡ b → columnOf r (getD (layers r) j (past r)) ≡ lowest r left
+      by-length true e = ap (columnOf r) (half-layer r e j k) ∙ quarters-column e ∙ rw e
       by-length false e =
-          ap (columnOf r) (List·getD-map (whole r) (rank (r .v)) j none)
-          ∙ ap (λ (b : Bracket). columnOf r (whole r b)) (sym this)
+          ap (columnOf r) (whole-layer r e j) ∙ ap (λ (b : Bracket). columnOf r (whole r b)) (sym this) ∙ rw e
 
   -- one column more
   pub written-next : {n : ℕ} → n ≡ left → written r (j + 1) ≡ written r j ++ lowest r n
   written-next e =
-      rw add-one (join-next (columnOf r) (layers r) j past (omega (arith, length-layers r h)))
+      rw add-one (join-next (columnOf r) (layers r) j (past r) (omega (arith, length-layers r h)))
       ∙ ap (λ (l : List ℕ). written r j ++ l) (layer-column ∙ ap (lowest r) (sym e))

@@ -17,11 +17,12 @@ use Rattle.codebook.specs.Refusals.{first, onSetting, onRank, onIndices, onAnsw
 use Rattle.precoder.specs.declared.Record.{Record}
 use Rattle.precoder.specs.Answer.{recordOf, bufferOf}
 
--- a report with its beam mask and the length of the lent buffer; the record that it is given; and entries of the buffer
--- afterwards, from a place on
+-- a report with its beam mask, its rank mask and the length of the lent buffer; the record that it is given; and entries
+-- of the buffer afterwards, from a place on
 pub record Row : Type 0 where
   pub report : Report
   pub mask : List ℕ
+  pub ranks : ℕ
   pub room : ℕ
   pub given : Record
   pub place : ℕ
@@ -40,12 +41,13 @@ ones bytes = replicate bytes 255
 lent : ℕ → List ℕ
 lent room = replicate room 255
 
--- accepted, with some of its entries
+-- accepted, with some of its entries; all bits of the rank mask are ones
 abbrev accepts : Report → List ℕ → ℕ → ℕ → ℕ → ℕ → List ℕ → Row
 accepts r mask p v scale place entries =
     record {
       report = r;
       mask = mask;
+      ranks = 255;
       room = scale;
       given = record { refusal = 0; ports = p; layers = v; scale = scale };
       place = place;
@@ -58,6 +60,7 @@ refuses r mask room k =
     record {
       report = r;
       mask = mask;
+      ranks = 255;
       room = room;
       given = record { refusal = k; ports = 0; layers = 0; scale = 0 };
       place = 0;
@@ -96,20 +99,24 @@ rows =
     ∷ refuses (asks 2 1 1 1 1 0 0 1) (ones 1) 3 11
     ∷ []
 
--- what a row says, and what the definitions give; all bits of the rank mask are ones
+-- what a row says
 pub said : Row → Record × List ℕ
 said x = (x .given, x .entries)
 
-pub given : Row → Record × List ℕ
-given x = (
-  recordOf (x .report) (refusal (x .report) (x .mask) 255 (x .room)),
-  take (length (x .entries))
-      (drop (x .place) (bufferOf (refusal (x .report) (x .mask) 255 (x .room)) (matrix (x .report)) (lent (x .room)))),
-)
+-- what the definitions give
+number : Row → ℕ
+number x = refusal (x .report) (x .mask) (x .ranks) (x .room)
 
-pub worked : map given rows ≡ map said rows
+left : Row → List ℕ
+left x = bufferOf (number x) (matrix (x .report)) (lent (x .room))
+
+pub defined : Row → Record × List ℕ
+defined x = (recordOf (x .report) (number x), take (length (x .entries)) (drop (x .place) (left x)))
+
+-- row by row
+pub worked : map defined rows ≡ map said rows
 unfolding
-    rows ones lent said given
+    rows ones lent said number left defined
     steps product grid step column
     some join first settings isSetting maskBytes ranks quarters
     modeTwo halfLength n base kTwo kThree kRows offsets moved beams
