@@ -173,7 +173,7 @@ module _ (r : Report) where
   whole-layer e j = rw e (List·getD-map (whole r) (brackets r) j (0 ⨾ 0))
 
   -- a co-phase for each block
-  length-co : InRange r → (j : ℕ) → j < r .v → length (getD (layers r) j past .co) ≡ blocks r
+  pub length-co : InRange r → (j : ℕ) → j < r .v → length (getD (layers r) j past .co) ≡ blocks r
   length-co h j k = by-length (halfLength r) refl
     where
       by-length : (b : Bool) → halfLength r ≡ b → length (getD (layers r) j past .co) ≡ blocks r
@@ -185,14 +185,19 @@ module _ (r : Report) where
       by-length false e =
           ap (λ (x : Layer). length (x .co)) (whole-layer e j) ∙ whole-co (getD (brackets r) j (0 ⨾ 0)) ∙ rw e
 
-  -- an entry for each port in each layer
+  -- an entry for each port
+  pub layer-long : InRange r → (j : ℕ) → j < r .v → length (columnOf r (getD (layers r) j past)) ≡ ports (r .n1) (r .n2)
+  layer-long h j k =
+      length-column (getD (layers r) j past)
+      ∙ ap (λ (n : ℕ). n * (rows r * r .n2)) (length-co h j k)
+      ∙ column-sized r (h .setting) .all
+
+  -- in each layer
   pub length-matrix : InRange r → length (matrix r) ≡ r .v * ports (r .n1) (r .n2)
   unfolding matrix
   length-matrix h =
       length-join (columnOf r) (layers r) past (ports (r .n1) (r .n2))
-      (λ j k. length-column (getD (layers r) j past)
-      ∙ ap (λ (n : ℕ). n * (rows r * r .n2)) (length-co h j (omega (arith, length-layers r h)))
-      ∙ column-sized r (h .setting) .all)
+      (λ j k. layer-long h j (omega (arith, length-layers r h)))
       ∙ ap (λ (n : ℕ). n * ports (r .n1) (r .n2)) (length-layers r h)
 
 -- ---- the beams of the layers are beams of the report

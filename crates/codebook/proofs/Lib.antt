@@ -7,6 +7,7 @@ pub mod Bounds
 pub mod Chosen
 pub mod Bits
 pub mod Layers
+pub mod Entries
 pub mod Passed
 pub mod Counts
 pub mod Unique

@@ -5,7 +5,7 @@
 -- and what is left in the lent buffer.
 use mathlib.Core.Path.{_≡_, refl, sym, ap, _∙_}
 use mathlib.Core.Logic.{_↔_}
-use mathlib.Core.List.{List, _++_, map, append-assoc}
+use mathlib.Core.List.{List, [], _∷_, _++_, map, append-assoc}
 use Prim.Native.Nat.{ℕ, _*_}
 use native.Mathlib.Omega.{arith}
 use lib.ListN.{length, drop, replicate, length-append}
@@ -30,6 +30,12 @@ module _ (r : Report) (mask : List ℕ) (ranks : ℕ) where
       (recordOf r (refusal r mask ranks (length lent)))
       (bufferOf (refusal r mask ranks (length lent)) (matrix r) lent)
   every-input-answered lent = record { record-is = refl; buffer-is = refl }
+
+  -- The refusals are 1 to 11, in this order.
+  pub refusals-in-order : (room : ℕ)
+      → map (λ x. x .1) (refusals r mask ranks room) ≡ 1 ∷ 2 ∷ 3 ∷ 4 ∷ 5 ∷ 6 ∷ 7 ∷ 8 ∷ 9 ∷ 10 ∷ 11 ∷ []
+  unfolding refusals onSetting onRank onIndices onAnswer
+  refusals-in-order room = refl
 
   -- The number given is that of the first fault in the order: its test holds, and none before it does.
   pub first-fault-given : (room : ℕ) → (refusal r mask ranks room ≡ 0 → ⊥)

@@ -67,7 +67,7 @@ unfolding beam step
 beam-reduced c l m = rw (mod-mod l (c .n1 * c .o1), mod-mod m (c .n2 * c .o2))
 
 -- where w divides a turn, a·l·turn/w is a steps of l·(turn/w)
-printed : (a l w : ℕ) → w * (turn / w) ≡ turn → a * l * turn / w ≡ a * (l * (turn / w))
+pub printed : (a l w : ℕ) → w * (turn / w) ≡ turn → a * l * turn / w ≡ a * (l * (turn / w))
 printed a l w e = ap (λ (x : ℕ). x / w) as-multiple ∙ mul-div-cancel (a * (l * (turn / w))) (left-pos w (turn / w) e)
   where
     as-multiple : a * l * turn ≡ a * (l * (turn / w)) * w
