@@ -1,12 +1,13 @@
 -- `beams::choose` meets its contract: its beams are those of the offsets. Assumes nothing.
-use mathlib.Core.Path.{_≡_, sym, ap, _∙_}
+use mathlib.Core.Path.{_≡_, sym, ap, ap₂, _∙_}
 use mathlib.Core.Bool.{false, _||_}
 use native.Mathlib.Omega.{arith}
 use lib.Dec.{eqb}
+use lib.ListN.{getD}
 use borrow.Author.Needs.{needs}
 use borrow.Author.Tests.{eq-eqb, ne-eqb}
 use Rattle.codebook.specs.declared.Beam.{Beam}
-use Rattle.codebook.specs.Columns.{beam, halfLength, base, moved}
+use Rattle.codebook.specs.Columns.{beam, halfLength, base, kRows, moved}
 use Rattle.codebook.proofs.Rows.{rows-near, is-near}
 use Rattle.codebook.proofs.Bounds.{i11-few, i12-few, base-movable}
 use Rattle.codebook.proofs.Chosen.{chosen-beams, offsets-one, offsets-two}
@@ -24,6 +25,14 @@ two : (c : tie.Else3)
     → let r = c .before .before .before .before .before .before .before .before .args .r in
     (eqb (r .v) 1 || halfLength r) ≡ false
 two c = rw (ne-eqb _ 1 (c .before .before .if2 .left), sym (c .before .is-half-length .ensures) ∙ c .if3 .left)
+
+-- and the second: B, as it was before it was reduced, moved by the row of k
+second : (c : tie.After-moved-by2)
+    → let r = c .before .before .before .before .before .before .before .before .before .before .args .r in
+    c .moved-by2 .result ≡ moved r (base r) (getD (kRows r) (r .i13) (beam 0 0))
+second c =
+    let b = c .before .before .before .before .before .before .before .before .before in
+    c .moved-by2 .ensures ∙ ap₂ (moved (b .before .args .r)) (b .base-of .ensures) (c .before .k-row .ensures)
 
 base-of-requires : tie.Need-base-of-requires
 base-of-requires c κs = search needs
@@ -91,14 +100,7 @@ returns-4 c =
     let whole = c .before .before .before in
     let a = whole .before .before .before .before .before .before in
     let r = a .before .before .args .r in
-    rw (
-      c .chosen3 .ensures,
-      first a,
-      c .before .moved-by2 .ensures,
-      c .before .before .k-row .ensures,
-      a .before .base-of .ensures,
-    )
-    (chosen-beams r _ (offsets-two r (omega arith) (two whole)))
+    rw (c .chosen3 .ensures, first a, second (c .before)) (chosen-beams r _ (offsets-two r (omega arith) (two whole)))
 
 pub choose-spec : {M : Type 1} → statement M
 choose-spec =
