@@ -1,7 +1,7 @@
 -- Two columns whose differences cancel have a small cross-sum in 16-bit weights: port by port the product is near
 -- radius times the weight at the difference, and these weights sum to zero. Assumes nothing.
 use mathlib.Core.Path.{_≡_, sym, ap, _∙_, subst}
-use mathlib.Core.List.{List, [], _∷_}
+use mathlib.Core.List.{List, [], _∷_, map}
 use Prim.Native.Nat.{ℕ, suc, _*_, _≤_, zero-le}
 use native.Mathlib.Nat.{le-trans}
 use native.Mathlib.Omega.{arith}
@@ -24,7 +24,7 @@ module _ (part : Weight → Weight → ℤ) (f : ℕ → ℤ)
   none-off : (n : ℕ) → off (pos 0) (pos 0) ≤ n
   none-off n = subst (λ (z : ℤ). natAbs (pos 0 -ℤ z) ≤ n) (sym (*ℤ-zero (pos radius))) zero-le
 
-  cross-near : (es gs : List ℕ) → off (cross part es gs) (sum f (differences es gs)) ≤ limit * length es
+  cross-near : (es gs : List ℕ) → off (cross part (map weight es) (map weight gs)) (sum f (differences es gs)) ≤ limit * length es
   unfolding cross sum differences
   cross-near [] gs = none-off (limit * 0)
   cross-near (e ∷ es) [] = none-off (limit * suc (length es))
@@ -32,21 +32,21 @@ module _ (part : Weight → Weight → ℤ) (f : ℕ → ℤ)
       let p : ℤ = part (weight e) (weight g) in
       let s : ℤ = sum f (differences es gs) in
       subst (λ (z : ℤ). natAbs z ≤ limit * suc (length es))
-      (sym (ap (λ (z : ℤ). (p +ℤ cross part es gs) -ℤ z) (mul-sum radius (f (difference e g)) s)
-      ∙ sub-sums p (cross part es gs) (pos radius *ℤ f (difference e g)) (pos radius *ℤ s)))
-      (le-trans (size-add (p -ℤ pos radius *ℤ f (difference e g)) (cross part es gs -ℤ pos radius *ℤ s))
+      (sym (ap (λ (z : ℤ). (p +ℤ cross part (map weight es) (map weight gs)) -ℤ z) (mul-sum radius (f (difference e g)) s)
+      ∙ sub-sums p (cross part (map weight es) (map weight gs)) (pos radius *ℤ f (difference e g)) (pos radius *ℤ s)))
+      (le-trans (size-add (p -ℤ pos radius *ℤ f (difference e g)) (cross part (map weight es) (map weight gs) -ℤ pos radius *ℤ s))
       (omega (arith, near e g, cross-near es gs)))
 
-  cross-small : (es gs : List ℕ) → sum f (differences es gs) ≡ pos 0 → natAbs (cross part es gs) ≤ limit * length es
+  cross-small : (es gs : List ℕ) → sum f (differences es gs) ≡ pos 0 → natAbs (cross part (map weight es) (map weight gs)) ≤ limit * length es
   cross-small es gs z =
       subst (λ (v : ℤ). natAbs v ≤ limit * length es)
-      (ap (λ (s : ℤ). cross part es gs -ℤ pos radius *ℤ s) z
-      ∙ ap (λ (v : ℤ). cross part es gs -ℤ v) (*ℤ-zero (pos radius))
-      ∙ +ℤ-idr (cross part es gs))
+      (ap (λ (s : ℤ). cross part (map weight es) (map weight gs) -ℤ pos radius *ℤ s) z
+      ∙ ap (λ (v : ℤ). cross part (map weight es) (map weight gs) -ℤ v) (*ℤ-zero (pos radius))
+      ∙ +ℤ-idr (cross part (map weight es) (map weight gs)))
       (cross-near es gs)
 
 pub cross-bound : (es gs : List ℕ) → Cancels (differences es gs)
-    → (natAbs (cross re es gs) ≤ limit * length es) × (natAbs (cross im es gs) ≤ limit * length es)
+    → (natAbs (cross re (map weight es) (map weight gs)) ≤ limit * length es) × (natAbs (cross im (map weight es) (map weight gs)) ≤ limit * length es)
 cross-bound es gs c = (
   cross-small re x (λ e g. product-within e g .x) es gs (weights-sum c .0),
   cross-small im y (λ e g. product-within e g .y) es gs (weights-sum c .1),

@@ -1,4 +1,4 @@
--- The laws of the table; `CrossSum` and the last part of `Rules` are what other crates come for.
+-- The laws of the table; `CrossSum`, `Powers` and the last part of `Rules` are what other crates come for.
 pub mod Unique
 pub mod Pairs
 pub mod Integers
@@ -7,3 +7,4 @@ pub mod Nearest
 pub mod Products
 pub mod Sums
 pub mod CrossSum
+pub mod Powers

@@ -14,9 +14,8 @@ use Rattle.turn.specs.Phase.{quarter, phase, difference}
 use Rattle.turn.proofs.Tests.{and-left, and-right, two-le, every, every-at}
 use Rattle.turn.proofs.Differences.{difference-back}
 use Rattle.weight.specs.declared.Weight.{Weight}
-use Rattle.weight.specs.Table.{radius, firstQuarter, firstHalf, xs, ys, table, weight}
+use Rattle.weight.specs.Table.{radius, firstQuarter, firstHalf, xs, ys, table, none, weight}
 use Rattle.weight.specs.Products.{turned, re, im, off, Near, limit, productOff}
-use Rattle.weight.proofs.Pairs.{none}
 use Rattle.weight.proofs.Integers.{mul-neg, neg-mul, size-neg}
 use Rattle.weight.proofs.Rules.{weight-same, quarter-more}
 

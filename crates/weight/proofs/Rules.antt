@@ -12,9 +12,9 @@ use lib.Signed.{ltZ, _<ℤ_, ltZ-yes}
 use Rattle.turn.specs.Phase.{turn, half, quarter, third, twelfth, phase}
 use Rattle.turn.proofs.Tests.{and-left, and-right, two-le, every, every-at}
 use Rattle.weight.specs.declared.Weight.{Weight}
-use Rattle.weight.specs.Table.{radius, firstQuarter, firstHalf, xs, ys, table, weight}
-use Rattle.weight.specs.Products.{turned, power, PowerWithin, limit, powerBelow, powerAbove}
-use Rattle.weight.proofs.Pairs.{none, one-weight}
+use Rattle.weight.specs.Table.{firstQuarter, firstHalf, xs, ys, table, none, weight}
+use Rattle.weight.specs.Products.{turned, power, Within, fullPower, limit, powerBelow, powerAbove}
+use Rattle.weight.proofs.Pairs.{one-weight}
 use Rattle.weight.proofs.Integers.{eqZ, eqZ→eq}
 
 -- ---- the weight of a number is that of its phase
@@ -112,32 +112,32 @@ falls e h = ltZ-yes (every-at quarter falls? all-fall e h)
 -- ---- powers
 
 power? : ℕ → Bool
-power? e = leb (radius * radius) (power (weight e) + powerBelow) && leb (power (weight e)) (radius * radius + powerAbove)
+power? e = leb (fullPower) (power (weight e) + powerBelow) && leb (power (weight e)) (fullPower + powerAbove)
 
 powers : T (every turn power?)
 unfolding every power? weight table zipWith xs ys firstHalf firstQuarter
 powers = tt
 
-pub power-tight : (e : ℕ) → PowerWithin powerBelow powerAbove (weight e)
+pub power-tight : (e : ℕ) → Within fullPower powerBelow powerAbove (power (weight e))
 unfolding power?
-power-tight e = subst (PowerWithin powerBelow powerAbove) (weight-phase e) (record { low = t .0; high = t .1 })
+power-tight e = subst (λ (v : Weight). Within fullPower powerBelow powerAbove (power v)) (weight-phase e) (record { low = t .0; high = t .1 })
   where
     w : Weight
     w = weight (phase e)
 
-    t : (radius * radius ≤ power w + powerBelow) × (power w ≤ radius * radius + powerAbove)
+    t : (fullPower ≤ power w + powerBelow) × (power w ≤ fullPower + powerAbove)
     t =
-        two-le (radius * radius) (power w + powerBelow) (power w) (radius * radius + powerAbove)
+        two-le (fullPower) (power w + powerBelow) (power w) (fullPower + powerAbove)
         (every-at turn power? powers (phase e) (mod-lt e (lit< tt)))
 
-pub power-within : (e : ℕ) → PowerWithin limit limit (weight e)
+pub power-within : (e : ℕ) → Within fullPower limit limit (power (weight e))
 power-within e = let p = power-tight e in record { low = omega arith; high = omega arith }
 
 -- both ends occur
-pub power-lowest : power (weight 14) + powerBelow ≡ radius * radius
+pub power-lowest : power (weight 14) + powerBelow ≡ fullPower
 unfolding weight table zipWith xs ys firstHalf firstQuarter
 power-lowest = refl
 
-pub power-highest : power (weight 9) ≡ radius * radius + powerAbove
+pub power-highest : power (weight 9) ≡ fullPower + powerAbove
 unfolding weight table zipWith xs ys firstHalf firstQuarter
 power-highest = refl

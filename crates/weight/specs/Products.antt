@@ -1,9 +1,10 @@
--- Products of weights, and the cross-sum of two columns.
+-- Products of weights, the cross-sum of two layers, and powers.
 use mathlib.Core.List.{List, [], _∷_}
-use Prim.Native.Nat.{ℕ, _+_, _*_, _≤_}
+use Prim.Native.Nat.{ℕ, zero, suc, _+_, _*_, _≤_}
 use lib.IntN.{ℤ, pos, negℤ, natAbs, _+ℤ_, _-ℤ_, _*ℤ_}
+use lib.ListN.{getD}
 use Rattle.weight.specs.declared.Weight.{Weight}
-use Rattle.weight.specs.Table.{radius, weight}
+use Rattle.weight.specs.Table.{radius, none}
 
 -- a quarter more: (x,y) turned into (-y,x)
 abbrev pub turned : Weight → Weight
@@ -29,13 +30,17 @@ pub record Near (n : ℕ) (w a g : Weight) : Type 0 where
   pub x : off (re a g) (w .x) ≤ n
   pub y : off (im a g) (w .y) ≤ n
 
--- a power at most n below and m above radius·radius
-pub record PowerWithin (n m : ℕ) (w : Weight) : Type 0 where
-  pub low : radius * radius ≤ power w + n
-  pub high : power w ≤ radius * radius + m
+-- x is at most n below c, and at most m above
+pub record Within (c n m x : ℕ) : Type 0 where
+  pub low : c ≤ x + n
+  pub high : x ≤ c + m
+
+-- 268,435,456: the power that every weight is near
+abbrev pub fullPower : ℕ
+fullPower = radius * radius
 
 -- the scope's limit: of a part of a product against radius times the weight at the difference, and of a power against
--- radius·radius
+-- the full one
 abbrev pub limit : ℕ
 limit = 32768
 
@@ -49,8 +54,13 @@ powerBelow = 17304
 abbrev pub powerAbove : ℕ
 powerAbove = 15121
 
--- a part of the cross-sum of two columns: the sum over the ports of that part of conjugate(first) times second
-unfoldable pub cross : (Weight → Weight → ℤ) → List ℕ → List ℕ → ℤ
-cross part [] gs = pos 0
-cross part (e ∷ es) [] = pos 0
-cross part (e ∷ es) (g ∷ gs) = part (weight e) (weight g) +ℤ cross part es gs
+-- a part of the cross-sum of two layers: the sum over the ports of that part of conjugate(first) times second
+unfoldable pub cross : (Weight → Weight → ℤ) → List Weight → List Weight → ℤ
+cross part [] vs = pos 0
+cross part (w ∷ ws) [] = pos 0
+cross part (w ∷ ws) (v ∷ vs) = part w v +ℤ cross part ws vs
+
+-- the power of port q, summed over the layers: the first v of a list that has p weights to a layer
+unfoldable pub portPower : ℕ → ℕ → ℕ → List Weight → ℕ
+portPower zero p q ws = 0
+portPower (suc v) p q ws = portPower v p q ws + power (getD ws (v * p + q) none)

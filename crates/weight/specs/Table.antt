@@ -35,11 +35,21 @@ ys = drop (turn - quarter) xs ++ take (turn - quarter) xs
 unfoldable pub table : List Weight
 table = zipWith (λ (x y : ℤ). record { x = x; y = y }) xs ys
 
+-- past the end of a list
+abbrev pub none : Weight
+none = record { x = pos 0; y = pos 0 }
+
 -- the weight of a phase
 unfoldable pub weight : ℕ → Weight
-weight e = getD table (phase e) (record { x = pos 0; y = pos 0 })
+weight e = getD table (phase e) none
 
 -- weights as they are stored: x, then y, of each
 unfoldable pub numbers : List Weight → List ℤ
 numbers [] = []
 numbers (w ∷ ws) = w .x ∷ w .y ∷ numbers ws
+
+-- such numbers, read as weights
+unfoldable pub pairs : List ℤ → List Weight
+pairs [] = []
+pairs (x ∷ []) = []
+pairs (x ∷ y ∷ ns) = record { x = x; y = y } ∷ pairs ns

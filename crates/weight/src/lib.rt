@@ -1,7 +1,7 @@
 // The table of weights: a pair of 16-bit numbers for each phase.
 use turn::Phase;
 ghost use mathlib.Core.Path.{_≡_};
-ghost use Rattle.weight.specs.Table.{weight};
+ghost use Rattle.weight.specs.Table.{table, weight, numbers};
 
 // What one antenna port transmits for one layer: real part x and imaginary part y.
 pub struct Weight {
@@ -408,5 +408,12 @@ impl Weight {
             x: TABLE[at],
             y: TABLE[at + 1],
         }
+    }
+
+    // The whole table, for a loop to which it is lent: for each phase from 0 on, x and then y.
+    pub fn table() -> [i16; 2 * (turn::TURN as usize)]
+        ensures { λ r. ⌜ r ≡ numbers table ⌝ }
+    {
+        TABLE
     }
 }

@@ -10,8 +10,8 @@ use mir.Syntax.{w16}
 use mir.Val.{hbits, toZ, ofZ}
 use mir.Facts.{toZ-ofZ}
 use borrow.Author.Needs.{needs}
-use Rattle.weight.specs.Table.{firstQuarter, firstHalf, xs, ys, table, weight, numbers}
-use Rattle.weight.proofs.Pairs.{none, one-weight, numbers-x, numbers-y}
+use Rattle.weight.specs.Table.{firstQuarter, firstHalf, xs, ys, table, none, weight, numbers}
+use Rattle.weight.proofs.Pairs.{one-weight, numbers-x, numbers-y}
 use Rattle.weight.proofs.Weight.of.Statement.{statement}
 use Rattle.weight.proofs.Weight.of.Tie as tie
 
