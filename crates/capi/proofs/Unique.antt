@@ -1,9 +1,13 @@
 -- Each function that C calls has one outcome on every input: any two that its contract admits are equal, the record and
 -- every entry of the buffer. Assumes nothing.
-use mathlib.Core.Path.{sym, _∙_}
 use denote.Ref.{now}
 use Rattle.turn.proofs.Unique.{UniqueLeft}
+use Rattle.precoder.proofs.Answers.{one-answer}
 use Rattle.capi.proofs.aspenflick_phases.Reads as phases
+use Rattle.capi.proofs.aspenflick_weights.Reads as weights
 
 pub aspenflick-phases-unique : UniqueLeft phases.Learnt (λ k e. now (e .1 .1 .1 .0))
-aspenflick-phases-unique k a r r′ e e′ p q = (p .record-is ∙ sym (q .record-is), p .buffer-is ∙ sym (q .buffer-is))
+aspenflick-phases-unique k a r r′ e e′ = one-answer
+
+pub aspenflick-weights-unique : UniqueLeft weights.Learnt (λ k e. now (e .1 .1 .1 .0))
+aspenflick-weights-unique k a r r′ e e′ = one-answer

@@ -1,8 +1,10 @@
 -- What a call answers: the record, and what the lent buffer then holds.
 use mathlib.Core.Path.{_≡_}
-use mathlib.Core.List.{List, _++_}
-use Prim.Native.Nat.{ℕ, zero, suc, _*_}
-use lib.ListN.{length, drop}
+use mathlib.Core.List.{List, _++_, map}
+use Prim.Native.Nat.{ℕ, zero, suc, _*_, _/_}
+use lib.IntN.{ℤ}
+use lib.ListN.{length, take, drop}
+use Rattle.weight.specs.Table.{weight, numbers}
 use Rattle.codebook.specs.declared.Report.{Report}
 use Rattle.codebook.specs.Settings.{ports}
 use Rattle.codebook.specs.Matrix.{matrix}
@@ -20,7 +22,24 @@ abbrev pub bufferOf : {A : Type 0} → ℕ → List A → List A → List A
 bufferOf zero answer lent = answer ++ drop (length answer) lent
 bufferOf (suc k) answer lent = lent
 
--- a call of `phases`: its record, and what it leaves in the buffer
-pub record Phases (r : Report) (mask : List ℕ) (ranks : ℕ) (lent : List ℕ) (given : Record) (left : List ℕ) : Type 0 where
-  pub record-is : given ≡ recordOf r (refusal r mask ranks (length lent))
-  pub buffer-is : left ≡ bufferOf (refusal r mask ranks (length lent)) (matrix r) lent
+-- A call with room for so many entries: the record that is given, and what is left in the buffer.
+pub record Answers {A : Type 0} (r : Report) (mask : List ℕ) (ranks room : ℕ) (answer lent : List A)
+    (given : Record) (left : List A) : Type 0 where
+  pub record-is : given ≡ recordOf r (refusal r mask ranks room)
+  pub buffer-is : left ≡ bufferOf (refusal r mask ranks room) answer lent
+
+-- a call of `phases`: an entry is a number of parts of a turn
+abbrev pub Phases : Report → List ℕ → ℕ → List ℕ → Record → List ℕ → Type 0
+Phases r mask ranks lent given left = Answers r mask ranks (length lent) (matrix r) lent given left
+
+-- the weights of a report's matrix, as they are stored
+unfoldable pub weightsOf : Report → List ℤ
+weightsOf r = numbers (map weight (matrix r))
+
+-- a call of `weights`: an entry is two numbers, so that 11 is given where there are fewer than 2·v·P
+abbrev pub Weights : Report → List ℕ → ℕ → List ℤ → Record → List ℤ → Type 0
+Weights r mask ranks lent given left = Answers r mask ranks (length lent / 2) (weightsOf r) lent given left
+
+-- layer j of a list that has p entries to a layer
+abbrev pub layer : {A : Type 0} → ℕ → ℕ → List A → List A
+layer p j xs = take p (drop (j * p) xs)

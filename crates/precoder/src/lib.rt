@@ -1,9 +1,11 @@
 // The precoder of a report, written into a lent buffer.
 use codebook::Report;
+use weight::Weight;
 ghost use mathlib.Core.Path.{_≡_};
 ghost use Rattle.codebook.specs.Refusals.{InRange};
-ghost use Rattle.precoder.specs.Answer.{recordOf, Phases};
+ghost use Rattle.precoder.specs.Answer.{recordOf, Phases, Weights};
 
+mod expand;
 mod fill;
 mod layers;
 
@@ -15,6 +17,21 @@ pub struct Record {
     pub ports: u32,
     pub layers: u32,
     pub scale: u32,
+}
+
+// The entries of the largest matrix: 8 layers of 32 ports.
+const MOST: usize = 256;
+
+// The record of a refused report.
+fn refused(number: u32) -> Record
+    ensures { λ a. ⌜ a ≡ record { refusal = number; ports = 0; layers = 0; scale = 0 } ⌝ }
+{
+    Record {
+        refusal: number,
+        ports: 0,
+        layers: 0,
+        scale: 0,
+    }
 }
 
 // The record of an accepted report.
@@ -42,13 +59,25 @@ pub fn phases(r: Report, beams: &[u8], ranks: u8, out: &mut [u8]) -> Record
 {
     let c = codebook::judge(r, beams, ranks, out.len());
     if c.refusal != 0 {
-        return Record {
-            refusal: c.refusal,
-            ports: 0,
-            layers: 0,
-            scale: 0,
-        };
+        return refused(c.refusal);
     }
     layers::matrix(r, c, out);
     accepted(r)
+}
+
+// Writes the weights of a report's precoder: for each entry that `phases` writes x and then y, 16 bits each, the pair of the
+// table at its phase. Masks and refusals are those of `phases`, and 11 asks for 2·v·P numbers.
+pub fn weights(r: Report, beams: &[u8], ranks: u8, out: &mut [i16]) -> Record
+    ensures { λ a. ⌜ Weights r (now (beams .entry)) ranks (now (out .entry)) a (now (out .exit)) ⌝ }
+{
+    let c = codebook::judge(r, beams, ranks, out.len() / 2);
+    if c.refusal != 0 {
+        return refused(c.refusal);
+    }
+    let mut phases = [0; MOST];
+    layers::matrix(r, c, &mut phases);
+    let a = accepted(r);
+    let table = Weight::table();
+    expand::expand(&table, &phases, a.scale as usize, out);
+    a
 }

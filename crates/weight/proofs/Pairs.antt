@@ -1,33 +1,35 @@
 -- Weights as they are stored: where the numbers of each stand, and what is read back. Assumes nothing.
-use mathlib.Core.Path.{_≡_, refl, ap, _∙_}
-use mathlib.Core.List.{List, [], _∷_, _++_}
-use Prim.Native.Nat.{ℕ, zero, suc, _+_, _*_}
+use mathlib.Core.Path.{_≡_, refl, sym, ap, _∙_}
+use mathlib.Core.List.{List, [], _∷_, _++_, zipWith}
+use Prim.Native.Nat.{ℕ, zero, suc, _+_, _*_, _<_}
+use native.Mathlib.Nat.{mod-eq-of-lt}
 use native.Mathlib.Omega.{arith}
 use lib.IntN.{ℤ, pos}
 use lib.ListN.{length, getD}
+use Rattle.turn.specs.Phase.{turn}
 use Rattle.weight.specs.declared.Weight.{Weight}
-use Rattle.weight.specs.Table.{none, numbers, pairs}
+use Rattle.weight.specs.Table.{firstQuarter, firstHalf, xs, ys, table, none, weight, numbers, pairs}
 
 pub one-weight : {v w : Weight} → v .x ≡ w .x → v .y ≡ w .y → v ≡ w
 one-weight p q = λ i. record { x = p i; y = q i }
 
 -- the first weight has two numbers
-past-two : (w : Weight) (ws : List Weight) (n m : ℕ) → n ≡ suc (suc m)
-    → getD (numbers (w ∷ ws)) n (pos 0) ≡ getD (numbers ws) m (pos 0)
+past-two : (w : Weight) (ws : List Weight) (n m : ℕ) (z : ℤ) → n ≡ suc (suc m)
+    → getD (numbers (w ∷ ws)) n z ≡ getD (numbers ws) m z
 unfolding numbers
-past-two w ws n m e = ap (λ (k : ℕ). getD (w .x ∷ w .y ∷ numbers ws) k (pos 0)) e
+past-two w ws n m z e = ap (λ (k : ℕ). getD (w .x ∷ w .y ∷ numbers ws) k z) e
 
-pub numbers-x : (ws : List Weight) (i : ℕ) → getD (numbers ws) (2 * i) (pos 0) ≡ getD ws i none .x
+pub numbers-x : (ws : List Weight) (z : Weight) (i : ℕ) → getD (numbers ws) (2 * i) (z .x) ≡ getD ws i z .x
 unfolding numbers
-numbers-x [] i = refl
-numbers-x (w ∷ ws) zero = refl
-numbers-x (w ∷ ws) (suc i) = past-two w ws (2 * suc i) (2 * i) (omega arith) ∙ numbers-x ws i
+numbers-x [] z i = refl
+numbers-x (w ∷ ws) z zero = refl
+numbers-x (w ∷ ws) z (suc i) = past-two w ws (2 * suc i) (2 * i) (z .x) (omega arith) ∙ numbers-x ws z i
 
-pub numbers-y : (ws : List Weight) (i : ℕ) → getD (numbers ws) (2 * i + 1) (pos 0) ≡ getD ws i none .y
+pub numbers-y : (ws : List Weight) (z : Weight) (i : ℕ) → getD (numbers ws) (2 * i + 1) (z .y) ≡ getD ws i z .y
 unfolding numbers
-numbers-y [] i = refl
-numbers-y (w ∷ ws) zero = refl
-numbers-y (w ∷ ws) (suc i) = past-two w ws (2 * suc i + 1) (2 * i + 1) (omega arith) ∙ numbers-y ws i
+numbers-y [] z i = refl
+numbers-y (w ∷ ws) z zero = refl
+numbers-y (w ∷ ws) z (suc i) = past-two w ws (2 * suc i + 1) (2 * i + 1) (z .y) (omega arith) ∙ numbers-y ws z i
 
 pub length-numbers : (ws : List Weight) → length (numbers ws) ≡ 2 * length ws
 unfolding numbers
@@ -39,3 +41,17 @@ pub pairs-numbers : (ws : List Weight) (ns : List ℤ) → pairs (numbers ws ++ 
 unfolding numbers pairs
 pairs-numbers [] ns = refl
 pairs-numbers (w ∷ ws) ns = ap {B = List Weight} (λ (vs : List Weight). w ∷ vs) (pairs-numbers ws ns)
+
+-- ---- the table
+
+pub length-table : length (numbers table) ≡ 2 * turn
+unfolding table xs ys firstHalf firstQuarter zipWith numbers
+length-table = refl
+
+pub table-x : (e : ℕ) → e < turn → getD (numbers table) (2 * e) (pos 0) ≡ weight e .x
+unfolding weight
+table-x e h = numbers-x table none e ∙ ap (λ (n : ℕ). getD table n none .x) (sym (mod-eq-of-lt h))
+
+pub table-y : (e : ℕ) → e < turn → getD (numbers table) (2 * e + 1) (pos 0) ≡ weight e .y
+unfolding weight
+table-y e h = numbers-y table none e ∙ ap (λ (n : ℕ). getD table n none .y) (sym (mod-eq-of-lt h))

@@ -52,7 +52,7 @@ returns c =
     let i : ℕ = c .before .before .before .of .result .parts in
     let stored-x : mag (getD (numbers table) (2 * i) (pos 0)) < 2 ^ hbits w16 = c .before .t9 .given in
     let stored-y : mag (getD (numbers table) (2 * i + 1) (pos 0)) < 2 ^ hbits w16 = c .t15 .given in
-    one-weight (local stored-x ∙ numbers-x table i) (local stored-y ∙ numbers-y table i)
+    one-weight (local stored-x ∙ numbers-x table none i) (local stored-y ∙ numbers-y table none i)
     ∙ ap (λ (n : ℕ). getD table n none) (c .before .before .before .of .ensures)
 
 pub of-spec : {M : Type 1} → statement M

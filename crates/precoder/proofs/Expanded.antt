@@ -1,0 +1,109 @@
+-- The weights of phases, as they are stored over a lent list: where the two numbers of each stand. Assumes nothing.
+use mathlib.Core.Path.{_≡_, sym, ap, _∙_}
+use mathlib.Core.List.{List, [], _∷_, _++_, map}
+use Prim.Native.Nat.{ℕ, zero, suc, _+_, _*_, _<_, _≤_}
+use native.Mathlib.Nat.{le-trans, mul-le-mul-right}
+use native.Mathlib.Omega.{arith}
+use lib.IntN.{ℤ}
+use lib.ListN.{length, take, drop, set, getD, length-append, length-map, List·getD-map}
+use lib.Seq.{take-at, length-take-le, getD-take}
+use Rattle.turn.specs.Phase.{turn}
+use Rattle.weight.specs.declared.Weight.{Weight}
+use Rattle.weight.specs.Table.{weight, numbers}
+use Rattle.weight.proofs.Pairs.{length-numbers, numbers-x, numbers-y}
+use Rattle.codebook.specs.declared.Report.{Report}
+use Rattle.codebook.specs.Settings.{ports}
+use Rattle.codebook.specs.Matrix.{layers, join, block, columnOf, matrix}
+use Rattle.codebook.specs.Refusals.{InRange}
+use Rattle.codebook.proofs.Known.{ports-few}
+use Rattle.codebook.proofs.Layers.{length-matrix}
+use Rattle.precoder.specs.Answer.{weightsOf}
+use Rattle.precoder.specs.Layer.{Reduced}
+use Rattle.precoder.proofs.Written.{stored}
+use Rattle.precoder.proofs.Columns.{column-below}
+
+module _ (phases : List ℕ) (n : ℕ) (h : n ≤ length phases) where
+  abbrev pub expanded : List ℤ
+  expanded = numbers (map weight (take n phases))
+
+  pub length-expanded : length expanded ≡ 2 * n
+  length-expanded =
+      length-numbers (map weight (take n phases))
+      ∙ ap (λ (m : ℕ). 2 * m) (length-map (take n phases) weight ∙ length-take-le n phases h)
+
+  -- the weight of phase i
+  weight-at : (i : ℕ) → i < n → getD (map weight (take n phases)) i (weight 0) ≡ weight (getD phases i 0)
+  weight-at i k = List·getD-map weight (take n phases) i 0 ∙ ap weight (getD-take n phases i 0 k)
+
+  module _ (d : List ℤ) (i at : ℕ) (k : i < n) (e : at ≡ 2 * i) (room : 2 * n ≤ length d) where
+    -- one weight more is stored: x, and y after it
+    pub weight-stored : {o : List ℤ} {x y : ℤ} → o ≡ take at expanded ++ drop at d → x ≡ weight (getD phases i 0) .x
+        → y ≡ weight (getD phases i 0) .y → set (set o at x) (at + 1) y ≡ take (at + 2) expanded ++ drop (at + 2) d
+    weight-stored {o} {x} {y} q ex ey =
+        let two : at + 1 + 1 ≡ at + 2 = omega arith in
+        rw two at
+        (stored d expanded (2 * n) (at + 1) (weight 0 .y)
+        (stored d expanded (2 * n) at (weight 0 .x) q (ex ∙ at-x) length-expanded (omega arith) room)
+        (ey ∙ at-y) length-expanded (omega arith) room)
+      where
+        at-x : weight (getD phases i 0) .x ≡ getD expanded at (weight 0 .x)
+        at-x =
+            sym (ap (λ (j : ℕ). getD expanded j (weight 0 .x)) e ∙ numbers-x (map weight (take n phases)) (weight 0) i
+            ∙ ap (λ (w : Weight). w .x) (weight-at i k))
+
+        at-y : weight (getD phases i 0) .y ≡ getD expanded (at + 1) (weight 0 .y)
+        at-y =
+            sym (ap (λ (j : ℕ). getD expanded (j + 1) (weight 0 .y)) e
+            ∙ numbers-y (map weight (take n phases)) (weight 0) i
+            ∙ ap (λ (w : Weight). w .y) (weight-at i k))
+
+-- ---- the phases of a matrix
+
+below-append : (xs ys : List ℕ) → ((i : ℕ) → getD xs i 0 < turn) → ((i : ℕ) → getD ys i 0 < turn)
+    → (i : ℕ) → getD (xs ++ ys) i 0 < turn
+below-append [] ys p q i = q i
+below-append (x ∷ xs) ys p q zero = p 0
+below-append (x ∷ xs) ys p q (suc i) = below-append xs ys (λ j. p (suc j)) q i
+
+below-join : {A : Type 0} (f : A → List ℕ) → ((x : A) (i : ℕ) → getD (f x) i 0 < turn)
+    → (xs : List A) (i : ℕ) → getD (join (map f xs)) i 0 < turn
+unfolding join
+below-join f p [] i = omega arith
+below-join f p (x ∷ xs) i = below-append (f x) (join (map f xs)) (p x) (below-join f p xs) i
+
+module _ (r : Report) where
+  matrix-below : (i : ℕ) → getD (matrix r) i 0 < turn
+  unfolding matrix columnOf
+  matrix-below = below-join (columnOf r) (λ x. column-below (x .co) (block r (x .beam))) (layers r)
+
+  -- at most 8 layers of 32 ports
+  pub entries-few : InRange r → r .v * ports (r .n1) (r .n2) ≤ 256
+  entries-few h =
+      le-trans (mul-le-mul-right (ports (r .n1) (r .n2)) (h .few)) (omega (arith, ports-few (r .n1) (r .n2) (h .setting)))
+
+  pub length-weights : InRange r → length (weightsOf r) ≡ 2 * (r .v * ports (r .n1) (r .n2))
+  unfolding weightsOf
+  length-weights h =
+      length-numbers (map weight (matrix r))
+      ∙ ap (λ (m : ℕ). 2 * m) (length-map (matrix r) weight ∙ length-matrix r h)
+
+  -- a list that begins with the matrix
+  module _ (h : InRange r) {phases : List ℕ} (rest : List ℕ) (n : ℕ) (e : n ≡ r .v * ports (r .n1) (r .n2))
+      (q : phases ≡ matrix r ++ rest) where
+    long : length (matrix r) ≡ n
+    long = length-matrix r h ∙ sym e
+
+    front : take n phases ≡ matrix r
+    front = ap (take n) q ∙ take-at (matrix r) rest n long
+
+    pub front-fits : n ≤ length phases
+    front-fits = rw (q, length-append) (omega (arith, long))
+
+    pub front-reduced : Reduced (take n phases)
+    front-reduced = rw front (record { below = λ i k. matrix-below i })
+
+    -- its weights are those of the report
+    pub front-weights : {o : List ℤ} (lent : List ℤ) → o ≡ numbers (map weight (take n phases)) ++ drop (2 * n) lent
+        → o ≡ weightsOf r ++ drop (2 * n) lent
+    unfolding weightsOf
+    front-weights lent f = f ∙ rw front

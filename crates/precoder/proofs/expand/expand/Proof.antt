@@ -1,0 +1,143 @@
+-- `expand::expand` meets its contract: each turn looks up the pair of one phase, and stores its two numbers. Assumes nothing.
+use mathlib.Core.Path.{_≡_, refl, ap, _∙_}
+use mathlib.Core.List.{List, _++_, map}
+use Prim.Native.Nat.{_+_, _-_, _*_, _^_, _≤_, _<_}
+use native.Mathlib.Omega.{arith}
+use lib.IntN.{ℤ, pos}
+use lib.ListN.{length, take, drop, getD, length-set}
+use lib.Signed.{mag}
+use mir.Syntax.{w16}
+use mir.Val.{hbits, toZ, ofZ}
+use mir.Facts.{toZ-ofZ}
+use Rattle.turn.specs.Phase.{turn}
+use Rattle.weight.specs.Table.{weight, numbers}
+use Rattle.weight.proofs.Pairs.{length-table, table-x, table-y}
+use Rattle.precoder.proofs.Written.{stored-all}
+use Rattle.precoder.proofs.Columns.{reduced-at}
+use Rattle.precoder.proofs.Expanded.{length-expanded, weight-stored}
+use Rattle.precoder.proofs.expand.expand.Statement.{statement}
+use Rattle.precoder.proofs.expand.expand.Tie as tie
+
+abbrev Inv-loop : tie.InvT-loop
+Inv-loop stored phases n out₀ i₀ at₀ out i at =
+    (i ≤ n) × (at ≡ 2 * i) × (out ≡ take at (numbers (map weight (take n phases))) ++ drop at out₀)
+    × (length out ≡ length out₀)
+
+abbrev μ-loop : tie.MeasureT-loop
+μ-loop stored phases n out₀ i₀ at₀ out i at = n - i
+
+-- the phase that a turn reads is below a turn, and the table has its two numbers
+below : (c : tie.In-loop Inv-loop μ-loop)
+    → getD (c .before .before .args .phases .now) (c .before .loop .i) 0 < turn
+below c =
+    let s = c .before .before in
+    reduced-at _ (s .args .n) (s .pre .1) (s .pre .3) _ (c .loop-test .taken)
+
+long : (s : tie.Start Inv-loop μ-loop) → length (s .args .stored .now) ≡ 2 * turn
+long s = ap length (s .pre .0) ∙ length-table
+
+loop-holds : tie.Need-loop-holds Inv-loop μ-loop
+loop-holds c = (omega arith, refl, refl, refl)
+
+shared-slice-read-k : tie.Need-shared-slice-read-k Inv-loop μ-loop
+shared-slice-read-k c = omega arith
+
+cast-k : tie.Need-cast-k Inv-loop μ-loop
+cast-k c = omega (arith, below (c .before))
+
+mul-k : tie.Need-mul-k Inv-loop μ-loop
+mul-k c = omega (arith, below (c .before))
+
+add-next : tie.Need-add-next Inv-loop μ-loop
+add-next c = omega (arith, below (c .before))
+
+mul-x : tie.Need-mul-x Inv-loop μ-loop
+mul-x c = omega (arith, below (c .before))
+
+shared-slice-copy-out-x : tie.Need-shared-slice-copy-out-x Inv-loop μ-loop
+shared-slice-copy-out-x c = omega (arith, below (c .before), long (c .before .before .before))
+
+mul-y : tie.Need-mul-y Inv-loop μ-loop
+mul-y c = omega (arith, below (c .before .before))
+
+shared-slice-copy-out-y : tie.Need-shared-slice-copy-out-y Inv-loop μ-loop
+shared-slice-copy-out-y c = omega (arith, below (c .before .before), long (c .before .before .before .before))
+
+mul-x-2 : tie.Need-mul-x-2 Inv-loop μ-loop
+mul-x-2 c = omega arith
+
+slice-set-from-x : tie.Need-slice-set-from-x Inv-loop μ-loop
+slice-set-from-x c = omega arith
+
+add-y : tie.Need-add-y Inv-loop μ-loop
+add-y c = omega arith
+
+mul-y-2 : tie.Need-mul-y-2 Inv-loop μ-loop
+mul-y-2 c = omega arith
+
+slice-set-from-y : tie.Need-slice-set-from-y Inv-loop μ-loop
+slice-set-from-y c = simp length-set (omega arith)
+
+add-at : tie.Need-add-at Inv-loop μ-loop
+add-at c = omega arith
+
+add-i : tie.Need-add-i Inv-loop μ-loop
+add-i c = omega arith
+
+loop-less : tie.Need-loop-less Inv-loop μ-loop
+loop-less c = omega arith
+
+-- what the code holds in a local is the number itself
+local : {z : ℤ} → mag z < 2 ^ hbits w16 → toZ w16 (ofZ w16 z) ≡ z
+local h = toZ-ofZ {w = w16} (record { sfits = h })
+
+loop-again : tie.Need-loop-again Inv-loop μ-loop
+loop-again c =
+    let t = c .before .before .before in
+    let l = t .before .loop in
+    let s = t .before .before in
+    let e = getD (s .args .phases .now) (l .i) 0 in
+    let ex = local (c .before .x .given) ∙ ap (λ (ns : List ℤ). getD ns (2 * e) (pos 0)) (s .pre .0) ∙ table-x e (below t) in
+    let ey = local (c .y .given) ∙ ap (λ (ns : List ℤ). getD ns (2 * e + 1) (pos 0)) (s .pre .0) ∙ table-y e (below t) in (
+      omega arith,
+      omega arith,
+      weight-stored (s .args .phases .now) (s .args .n) (s .pre .1) (s .args .out .now) (l .i) (l .at)
+          (t .loop-test .taken) (l .inv .1) (s .pre .2) (l .inv .2) ex ey,
+      simp length-set (l .inv .3),
+    )
+
+same-length : tie.Need-same-length Inv-loop μ-loop
+same-length c = c .before .loop .inv .3
+
+returns : tie.Need-returns Inv-loop μ-loop
+returns c =
+    let l = c .before .loop in
+    let s = c .before .before in
+    stored-all _ _ (2 * s .args .n) (l .at) (l .inv .2) (length-expanded _ _ (s .pre .1)) (omega arith)
+
+pub expand-spec : {M : Type 1} → statement M
+expand-spec =
+    tie.close
+    (tie.spec
+    Inv-loop
+    μ-loop
+    loop-holds
+    shared-slice-read-k
+    cast-k
+    mul-k
+    add-next
+    mul-x
+    shared-slice-copy-out-x
+    mul-y
+    shared-slice-copy-out-y
+    mul-x-2
+    slice-set-from-x
+    add-y
+    mul-y-2
+    slice-set-from-y
+    add-at
+    add-i
+    loop-less
+    loop-again
+    same-length
+    returns)
