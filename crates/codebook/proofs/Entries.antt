@@ -3,11 +3,11 @@ use mathlib.Core.Path.{_≡_, sym, ap, ap₂, _∙_, subst}
 use mathlib.Core.Bool.{true}
 use mathlib.Core.List.{List, [], _∷_, _++_, map}
 use Prim.Native.Nat.{ℕ, zero, suc, _+_, _*_, _/_, _<_}
-use native.Mathlib.Nat.{mod-eq-of-lt, not-suc-le-zero}
+use native.Mathlib.Nat.{zero-mul, mod-eq-of-lt, not-suc-le-zero}
 use native.Mathlib.Omega.{arith}
 use lib.Arith.{digits-lt}
-use lib.ListN.{length, getD, List·getD-append}
-use lib.Seq.{getD-append-add}
+use lib.ListN.{length, getD, take, drop, List·getD-append}
+use lib.Seq.{getD-append-add, take-at, drop-append-add}
 use Rattle.turn.specs.Phase.{turn, phase}
 use Rattle.turn.specs.Column.{step, column}
 use Rattle.turn.proofs.Lists.{length-grid}
@@ -25,7 +25,7 @@ step-printed : (n o a l : ℕ) → n * o * (turn / (n * o)) ≡ turn → l < n *
 unfolding step
 step-printed n o a l e h = ap (λ (k : ℕ). a * (k * (turn / (n * o)))) (mod-eq-of-lt h) ∙ sym (printed a l (n * o) e)
 
--- list j of lists of w elements
+-- lists of w elements, one after the other: element i of list j, and list j itself
 join-entry : {A : Type 0} (f : A → List ℕ) (xs : List A) (x : A) (w : ℕ)
     → ((j : ℕ) → j < length xs → length (f (getD xs j x)) ≡ w)
     → (j i : ℕ) → j < length xs → i < w → getD (join (map f xs)) (j * w + i) 0 ≡ getD (f (getD xs j x)) i 0
@@ -39,7 +39,27 @@ join-entry f (y ∷ xs) x w l (suc j) i h k =
     ∙ getD-append-add (f y) (join (map f xs)) (j * w + i) 0
     ∙ join-entry f xs x w (λ m p. l (suc m) (omega arith)) j i (omega arith) k
 
+join-part : {A : Type 0} (f : A → List ℕ) (xs : List A) (x : A) (w : ℕ)
+    → ((j : ℕ) → j < length xs → length (f (getD xs j x)) ≡ w)
+    → (j : ℕ) → j < length xs → take w (drop (j * w) (join (map f xs))) ≡ f (getD xs j x)
+unfolding join
+join-part f [] x w l j h = absurd (not-suc-le-zero h)
+join-part f (y ∷ xs) x w l zero h =
+    rw zero-mul (take-at (f y) (join (map f xs)) w (l 0 (omega arith)))
+join-part f (y ∷ xs) x w l (suc j) h =
+    let e : suc j * w ≡ length (f y) + j * w = omega (arith, l 0 (omega arith)) in
+    rw (e, drop-append-add) (join-part f xs x w (λ m p. l (suc m) (omega arith)) j (omega arith))
+
 module _ (r : Report) where
+  -- layer j of the matrix: the P entries from place j·P on
+  pub matrix-layer : InRange r → (j : ℕ) → j < r .v
+      → take (ports (r .n1) (r .n2)) (drop (j * ports (r .n1) (r .n2)) (matrix r)) ≡ columnOf r (getD (layers r) j (past r))
+  unfolding matrix
+  matrix-layer h j k =
+      join-part (columnOf r) (layers r) (past r) (ports (r .n1) (r .n2))
+      (λ i l. layer-long r h i (omega (arith, length-layers r h)))
+      j (omega (arith, length-layers r h))
+
   -- the entry at (a,b) of block q of a column, b fastest
   column-printed : isSetting (r .n1) (r .n2) ≡ true → (x : Layer) → Within (r .n1) (r .n2) (x .beam)
       → (q a b : ℕ) → q < length (x .co) → a < rows r → b < r .n2

@@ -14,7 +14,7 @@ use Rattle.turn.proofs.Lists.{length-product, length-grid}
 use Rattle.turn.proofs.Tests.{and-left, and-right, or-else, every, every-at}
 use Rattle.codebook.specs.declared.Report.{Report}
 use Rattle.codebook.specs.Settings.{settings, isSetting, ports}
-use Rattle.codebook.specs.Columns.{Bracket, _⨾_, ranks, quarters, halfLength, beams}
+use Rattle.codebook.specs.Columns.{Bracket, _⨾_, ranks, quarters, halfLength, offsets, beams}
 use Rattle.codebook.specs.Matrix.{Layer, fOf, tOf, whole, quartered, layers}
 use Rattle.codebook.specs.Matrix.{join, blocks, rows, block, columnOf, matrix}
 use Rattle.codebook.specs.Refusals.{InRange}
@@ -52,11 +52,14 @@ even-rows n1 n2 e h =
 
 -- ---- layers
 
--- the brackets of a report's rank, and for half-length beams what is added to the quarters
+-- the brackets of a report's rank, that of layer j, and for half-length beams what is added to the quarters
 abbrev brackets : Report → List Bracket
 brackets r = getD ranks (r .v - 1) []
 
-abbrev halves : Report → List (List ℕ)
+abbrev pub bracket : Report → ℕ → Bracket
+bracket r j = getD (brackets r) j (0 ⨾ 0)
+
+abbrev pub halves : Report → List (List ℕ)
 halves r = quarters (fOf r) (tOf r)
 
 -- one list more
@@ -168,7 +171,7 @@ module _ (r : Report) where
       rw e (List·getD-map (quartered r) (take (r .v) (halves r)) j [])
       ∙ ap (quartered r) (getD-take (r .v) (halves r) j [] k)
 
-  pub whole-layer : halfLength r ≡ false → (j : ℕ) → getD (layers r) j past ≡ whole r (getD (brackets r) j (0 ⨾ 0))
+  pub whole-layer : halfLength r ≡ false → (j : ℕ) → getD (layers r) j past ≡ whole r (bracket r j)
   unfolding layers past
   whole-layer e j = rw e (List·getD-map (whole r) (brackets r) j (0 ⨾ 0))
 
@@ -183,7 +186,7 @@ module _ (r : Report) where
           ∙ length-quarters (fOf r) (tOf r) j (omega (arith, halved r e .few))
           ∙ rw e
       by-length false e =
-          ap (λ (x : Layer). length (x .co)) (whole-layer e j) ∙ whole-co (getD (brackets r) j (0 ⨾ 0)) ∙ rw e
+          ap (λ (x : Layer). length (x .co)) (whole-layer e j) ∙ whole-co (bracket r j) ∙ rw e
 
   -- an entry for each port
   pub layer-long : InRange r → (j : ℕ) → j < r .v → length (columnOf r (getD (layers r) j past)) ≡ ports (r .n1) (r .n2)
@@ -214,6 +217,11 @@ brackets-counted v j some few h =
     let e : v - 1 + 1 ≡ v = omega arith in
     rw e at (ltb→lt (place (v - 1) j) (bound (v - 1 + 1)) u)
 
+-- and so those of a report's rank
+pub brackets-within : (r : Report) → InRange r → halfLength r ≡ false → (j : ℕ) → j < r .v
+    → bracket r j .beam < length (offsets r)
+brackets-within r h e j k = rw (length-offsets r, e) (brackets-counted (r .v) j (h .some) (h .few) k)
+
 -- layer x has a beam of the report, at a place
 pub record Uses (r : Report) (x : Layer) : Type 0 where
   pub place : ℕ
@@ -232,7 +240,7 @@ layers-use r h j k = by-length (halfLength r) refl
         }
     by-length false e =
         record {
-          place = getD (brackets r) j (0 ⨾ 0) .beam;
-          within = rw (length-beams r, length-offsets r, e) (brackets-counted (r .v) j (h .some) (h .few) k);
-          same = ap (λ (x : Layer). x .beam) (whole-layer r e j) ∙ whole-beam r (getD (brackets r) j (0 ⨾ 0));
+          place = bracket r j .beam;
+          within = rw (length-beams r) (brackets-within r h e j k);
+          same = ap (λ (x : Layer). x .beam) (whole-layer r e j) ∙ whole-beam r (bracket r j);
         }

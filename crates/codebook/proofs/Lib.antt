@@ -8,6 +8,8 @@ pub mod Chosen
 pub mod Bits
 pub mod Layers
 pub mod Entries
+pub mod Apart
+pub mod Cancel
 pub mod Passed
 pub mod Counts
 pub mod Unique
