@@ -5,7 +5,7 @@ use mathlib.Core.Logic.{_≢_, _⊎_, inl, inr}
 use mathlib.Core.Bool.{Bool, true, false, not, cond, _&&_, _||_}
 use mathlib.Core.List.{List, [], _∷_, map}
 use Prim.Native.Nat.{ℕ, zero, suc, _+_, _*_, _/_, _%_, _<_}
-use native.Mathlib.Nat.{add-zero, mul-comm, mod-lt, not-suc-le-zero, le-of-suc-le-suc}
+use native.Mathlib.Nat.{add-zero, mul-comm, mod-lt}
 use native.Mathlib.Omega.{arith}
 use lib.Dec.{T, eqb, eqb→eq, T-not}
 use lib.ListN.{length, getD, List·getD-map}
@@ -14,7 +14,7 @@ use Rattle.turn.specs.Column.{Setting, beam, column}
 use Rattle.turn.specs.Exact.{differences}
 use Rattle.turn.proofs.All
 use Rattle.turn.proofs.All.{more}
-use Rattle.turn.proofs.Lists.{length-beam}
+use Rattle.turn.proofs.Lists.{map-at, length-beam}
 use Rattle.turn.proofs.Entries.{beam-reduced}
 use Rattle.turn.proofs.Beams.{Apart, Common}
 use Rattle.turn.proofs.Opposites.{flipped}
@@ -58,12 +58,6 @@ co r y = 0 ∷ addedOf (fOf r) y ∷ []
 -- the beam k steps of (O1,O2) from B
 abbrev steered : Report → Beam → List ℕ
 steered r k = beam (settingOf r) (base r .l + k .l * o1 (r .n1)) (base r .m + k .m * o2 (r .n2))
-
-map-at : {A B : Type 0} (f : A → B) (xs : List A) (i : ℕ) (x : A) (y : B) → i < length xs
-    → getD (map f xs) i y ≡ f (getD xs i x)
-map-at f [] i x y h = absurd (not-suc-le-zero h)
-map-at f (z ∷ xs) zero x y h = refl
-map-at f (z ∷ xs) (suc i) x y h = map-at f xs i x y (le-of-suc-le-suc h)
 
 module _ (r : Report) (e : halfLength r ≡ false) where
   block-moved : (k : Beam) → block r (moved r (base r) k) ≡ steered r k

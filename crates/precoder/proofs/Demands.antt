@@ -1,117 +1,120 @@
--- What the library answers for, as theorems about the definitions that its contracts cite. Assumes nothing.
+-- What the library answers for: the three demands, and how unequal the power of the ports can become. Assumes nothing.
 --
--- `refusal r mask ranks room` is the number given to the report r with a beam mask and a rank mask, where the lent buffer
--- has room for so many entries. `Phases r mask ranks lent given left` is the contract of `phases`: the record that is given
--- and what is left in the lent buffer.
-use mathlib.Core.Path.{_≡_, refl, sym, ap, _∙_}
-use mathlib.Core.Logic.{_↔_}
-use mathlib.Core.List.{List, [], _∷_, _++_, map, append-assoc}
-use Prim.Native.Nat.{ℕ, _*_}
+-- A call of `phases` or `weights` is given a report r, a beam mask, a rank mask and a lent buffer; it gives a record and
+-- leaves the buffer. `Phases` and `Weights` say what, on every input: they are the contracts that the code is proved to
+-- meet. Each is a case of `Answers`, by the room that the buffer has, in entries, and by the answer that it is to hold.
+use mathlib.Core.Path.{_≡_, refl}
+use mathlib.Core.Logic.{_≢_, _↔_}
+use mathlib.Core.List.{List, [], _∷_, _++_, map}
+use Prim.Native.Nat.{ℕ, _+_, _*_, _/_, _<_, _≤_}
 use native.Mathlib.Omega.{arith}
-use lib.ListN.{length, drop, replicate, length-append}
-use lib.Seq.{drop-append-le}
+use lib.IntN.{ℤ, natAbs}
+use lib.ListN.{length, drop, getD, replicate}
+use Rattle.turn.specs.Exact.{Orthogonal}
+use Rattle.weight.specs.Table.{none, weight, pairs}
+use Rattle.weight.specs.Products.{re, im, power, Within, cross, portPower}
+use Rattle.weight.proofs.Rules.{power-lowest, power-highest}
 use Rattle.codebook.specs.declared.Report.{Report}
-use Rattle.codebook.specs.Settings.{ports}
-use Rattle.codebook.specs.Matrix.{Layer, layers, matrix}
+use Rattle.codebook.specs.Matrix.{layers, matrix}
 use Rattle.codebook.specs.Masks.{bit, beamBit, bitsRead}
-use Rattle.codebook.specs.Refusals.{first, onSetting, onRank, onIndices, onAnswer, refusals, refusal, InRange}
-use Rattle.codebook.proofs.First.{None, FirstOf, first-of, first-none, none-zero}
-use Rattle.codebook.proofs.Bits.{all-ones, bits-one, beams-one}
-use Rattle.codebook.proofs.Layers.{layers-use, past, length-layers, length-matrix}
-use Rattle.codebook.proofs.Passed.{accepted-of, more-room}
+use Rattle.codebook.specs.Refusals.{onSetting, onRank, onIndices, onAnswer, refusals, refusal, InRange}
+use Rattle.codebook.proofs.First.{None, FirstOf}
 use Rattle.precoder.specs.declared.Record.{Record}
-use Rattle.precoder.specs.Answer.{recordOf, bufferOf, Phases}
-use Rattle.precoder.proofs.Answers.{record-number, record-refused, buffer-refused, buffer-accepted}
+use Rattle.precoder.specs.Answer.{P, recordOf, bufferOf, Answers, Phases, Weights, weightsOf, layer}
+use Rattle.precoder.proofs.Calls as calls
 
 module _ (r : Report) (mask : List ℕ) (ranks : ℕ) where
-  -- Every input has an answer.
-  pub every-input-answered : (lent : List ℕ)
-      → Phases r mask ranks lent
-      (recordOf r (refusal r mask ranks (length lent)))
-      (bufferOf (refusal r mask ranks (length lent)) (matrix r) lent)
-  every-input-answered lent = record { record-is = refl; buffer-is = refl }
+  -- 1a. Every input has an answer, whatever the report, the masks and the buffer.
+  pub every-input-answered : {A : Type 0} (room : ℕ) (answer lent : List A) → let number = refusal r mask ranks room in
+      Answers r mask ranks room answer lent (recordOf r number) (bufferOf number answer lent)
+  every-input-answered room answer lent = record { record-is = refl; buffer-is = refl }
 
-  -- The refusals are 1 to 11, in this order.
+  -- 1b. The refusals are 1 to 11, in this order. The number given is that of the first fault: its test holds, and none
+  -- before it does.
   pub refusals-in-order : (room : ℕ)
       → map (λ x. x .1) (refusals r mask ranks room) ≡ 1 ∷ 2 ∷ 3 ∷ 4 ∷ 5 ∷ 6 ∷ 7 ∷ 8 ∷ 9 ∷ 10 ∷ 11 ∷ []
   unfolding refusals onSetting onRank onIndices onAnswer
   refusals-in-order room = refl
 
-  -- The number given is that of the first fault in the order: its test holds, and none before it does.
-  pub first-fault-given : (room : ℕ) → (refusal r mask ranks room ≡ 0 → ⊥)
-      → FirstOf (refusals r mask ranks room) (refusal r mask ranks room)
-  unfolding refusal
-  first-fault-given room h = first-of (refusals r mask ranks room) h
+  module _ {A : Type 0} {room : ℕ} {answer lent left : List A} {given : Record}
+      (call : Answers r mask ranks room answer lent given left) where
+    pub first-fault-given : given .refusal ≢ 0 → FirstOf (refusals r mask ranks room) (given .refusal)
+    first-fault-given = calls.first-fault call
 
-  -- A report is accepted exactly when none of 1 to 11 applies.
-  pub accepted-exactly : (room : ℕ) → refusal r mask ranks room ≡ 0 ↔ None (refusals r mask ranks room)
-  unfolding refusal
-  accepted-exactly room = (no-fault, none-zero (refusals r mask ranks room))
-    where
-      no-fault : first (refusals r mask ranks room) ≡ 0 → None (refusals r mask ranks room)
-      no-fault e = unfold refusals onSetting onRank onIndices onAnswer in first-none (refusals r mask ranks room) tt e
+    -- 1c. A refusal leaves every entry of the buffer as lent, and gives zeros beside its number.
+    pub refused-as-lent : given .refusal ≢ 0
+        → (left ≡ lent) × (given ≡ record { refusal = given .refusal; ports = 0; layers = 0; scale = 0 })
+    refused-as-lent h = (calls.left-refused call h, calls.given-refused call h)
 
-  -- The numbers of an accepted report are all in range.
-  pub accepted-in-range : (room : ℕ) → refusal r mask ranks room ≡ 0 → InRange r
-  accepted-in-range room e = accepted-of r mask ranks room e .in-range
+    -- 1d. The numbers of an accepted report are all in range as they were reported: nothing is pulled into range.
+    pub accepted-in-range : given .refusal ≡ 0 → InRange r
+    accepted-in-range e = calls.accepted call e .in-range
 
-  -- No accepted report reads a bit of the beam mask that is zero.
-  pub bits-read-are-one : (room : ℕ) → refusal r mask ranks room ≡ 0
-      → map (bit mask) (bitsRead r) ≡ replicate (length (bitsRead r)) 1
-  bits-read-are-one room e = all-ones (bit mask) (bitsRead r) 0 (bits-one r mask (accepted-of r mask ranks room e .beams))
+  -- 2a. An accepted report leaves its matrix, v·P phases, and after it what was lent. Its record holds 0, P, v and v·P.
+  pub accepted-as-matrix : {lent left : List ℕ} {given : Record} → Phases r mask ranks lent given left → given .refusal ≡ 0
+      → (left ≡ matrix r ++ drop (r .v * P r) lent) × (length (matrix r) ≡ r .v * P r) × (given ≡ recordOf r 0)
+  accepted-as-matrix call e = (calls.left-matrix call e, calls.length-answer call e, calls.given-accepted call e)
 
-  -- Above two ports these are the bits of the layers' beams: no accepted report has a layer whose beam is barred.
-  pub layers-not-barred : (room : ℕ) → refusal r mask ranks room ≡ 0 → (r .n1 ≡ 1 → ⊥)
-      → map (λ x. bit mask (beamBit (r .n2) (x .beam))) (layers r) ≡ replicate (length (layers r)) 1
-  layers-not-barred room e more =
-      let a = accepted-of r mask ranks room e in
-      let long = length-layers r (a .in-range) in
-      all-ones (λ (x : Layer). bit mask (beamBit (r .n2) (x .beam))) (layers r) (past r)
-      (λ j h.
-      let u = layers-use r (a .in-range) j (omega arith) in
-      rw (u .same) (beams-one r mask (a .beams) more (u .place) (u .within)))
+  module _ {A : Type 0} {room : ℕ} {answer lent left : List A} {given : Record}
+      (call : Answers r mask ranks room answer lent given left) where
+    -- 2b. A report is accepted exactly when none of 1 to 11 applies: no rule, no mask, and no lack of room.
+    pub accepted-exactly : given .refusal ≡ 0 ↔ None (refusals r mask ranks room)
+    accepted-exactly = calls.accepted-exactly call
 
-module _ (r : Report) (mask : List ℕ) (ranks : ℕ) {lent : List ℕ} {given : Record} {left : List ℕ}
-    (call : Phases r mask ranks lent given left) where
-  number-given : given .refusal ≡ refusal r mask ranks (length lent)
-  number-given = ap (λ (x : Record). x .refusal) (call .record-is) ∙ record-number r (refusal r mask ranks (length lent))
+    -- 2c. Every bit of the beam mask that an accepted report reads is one. Above two ports these are the bits of its layers'
+    -- beams: no accepted report has a layer whose beam is barred.
+    pub bits-read-are-one : given .refusal ≡ 0 → map (bit mask) (bitsRead r) ≡ replicate (length (bitsRead r)) 1
+    bits-read-are-one = calls.bits-read call
 
-  -- A refusal leaves every entry of the buffer as lent, and gives zeros beside its number.
-  pub refused-as-lent : (given .refusal ≡ 0 → ⊥)
-      → (left ≡ lent) × (given ≡ record { refusal = given .refusal; ports = 0; layers = 0; scale = 0 })
-  refused-as-lent h =
-      let k = refusal r mask ranks (length lent) in
-      let no : k ≡ 0 → ⊥ = λ e. h (number-given ∙ e) in (
-        call .buffer-is ∙ buffer-refused k (matrix r) lent no,
-        call .record-is ∙ sym (record-refused r k no) ∙ rw number-given,
-      )
+    pub layers-not-barred : given .refusal ≡ 0 → r .n1 ≢ 1
+        → map (λ x. bit mask (beamBit (r .n2) (x .beam))) (layers r) ≡ replicate (r .v) 1
+    layers-not-barred = calls.layers-read call
 
-  -- An accepted report leaves its matrix, v·P entries, and after it what was lent.
-  pub accepted-as-matrix : given .refusal ≡ 0
-      → (left ≡ matrix r ++ drop (r .v * ports (r .n1) (r .n2)) lent)
-      × (length (matrix r) ≡ r .v * ports (r .n1) (r .n2))
-      × (given ≡ recordOf r 0)
-  accepted-as-matrix e =
-      let z = sym number-given ∙ e in
-      let long = length-matrix r (accepted-of r mask ranks (length lent) z .in-range) in (
-        call .buffer-is ∙ buffer-accepted _ (matrix r) lent _ z long,
-        long,
-        call .record-is ∙ ap (recordOf r) z,
-      )
+  -- 2d. The weights that an accepted report leaves are the table's pairs at its phases, x and then y of each: 2·v·P numbers,
+  -- and after them what was lent.
+  module _ {lent left : List ℤ} {given : Record} (call : Weights r mask ranks lent given left) (e : given .refusal ≡ 0) where
+    pub accepted-as-weights : (left ≡ weightsOf r ++ drop (2 * (r .v * P r)) lent)
+        × (length (weightsOf r) ≡ 2 * (r .v * P r)) × (given ≡ recordOf r 0)
+    accepted-as-weights = (calls.left-weights call e, calls.length-numbers call e, calls.given-accepted call e)
 
-  -- A longer buffer keeps its rest: the record and the entries are the same, and what is lent beyond them stays.
-  pub longer-buffer : {given′ : Record} {left′ : List ℕ} (more : List ℕ)
-      → Phases r mask ranks (lent ++ more) given′ left′ → given .refusal ≡ 0 → (given′ ≡ given) × (left′ ≡ left ++ more)
-  longer-buffer more call′ e =
-      let z = sym number-given ∙ e in
-      let a = accepted-of r mask ranks (length lent) z in
-      let long = length-matrix r (a .in-range) in
-      let z′ : refusal r mask ranks (length (lent ++ more)) ≡ 0 =
-      more-room r mask ranks (length lent) (length (lent ++ more)) (simp length-append (omega arith)) z in (
-        call′ .record-is ∙ ap (recordOf r) (z′ ∙ sym z) ∙ sym (call .record-is),
-        call′ .buffer-is
-            ∙ buffer-accepted _ (matrix r) (lent ++ more) _ z′ long
-            ∙ ap (λ (l : List ℕ). matrix r ++ l) (drop-append-le _ lent more (a .fits))
-            ∙ sym (append-assoc (matrix r) _ more)
-            ∙ ap (λ (l : List ℕ). l ++ more) (sym (call .buffer-is ∙ buffer-accepted _ (matrix r) lent _ z long)),
-      )
+    pub weights-of-phases : (i : ℕ) → i < r .v * P r → getD (pairs left) i none ≡ weight (getD (matrix r) i 0)
+    weights-of-phases = calls.left-weight call e
+
+  -- 3a. Any two different layers are exactly orthogonal: their phases satisfy the rule of counts.
+  pub layers-orthogonal : {lent left : List ℕ} {given : Record} → Phases r mask ranks lent given left → given .refusal ≡ 0
+      → (j k : ℕ) → j < r .v → k < r .v → j ≢ k → Orthogonal (layer (P r) j left) (layer (P r) k left)
+  layers-orthogonal = calls.layers-orthogonal
+
+  module _ {lent left : List ℤ} {given : Record} (call : Weights r mask ranks lent given left) (e : given .refusal ≡ 0) where
+    -- 3b. Of any two different layers, the real and the imaginary part of the weights' cross-sum are each at most
+    -- 32,768·P from zero.
+    pub cross-sums-small : (j k : ℕ) → j < r .v → k < r .v → j ≢ k
+        → let one = layer (P r) j (pairs left) in let other = layer (P r) k (pairs left) in
+        (natAbs (cross re one other) ≤ 32768 * P r) × (natAbs (cross im one other) ≤ 32768 * P r)
+    cross-sums-small = calls.cross-sums call e
+
+    -- 3c. The power of each weight is at most 32,768 from 268,435,456.
+    pub powers-near : (i : ℕ) → i < r .v * P r → Within 268435456 32768 32768 (power (getD (pairs left) i none))
+    powers-near i h = let p = calls.powers call e i h in record { low = omega arith; high = omega arith }
+
+    -- Nearer still: at most 17,304 below and 15,121 above. Both occur in the table.
+    pub powers-within : (i : ℕ) → i < r .v * P r → Within 268435456 17304 15121 (power (getD (pairs left) i none))
+    powers-within = calls.powers call e
+
+    -- The power of a port, summed over the layers, is at most v times as far from v times as much.
+    pub port-power : (q : ℕ) → q < P r
+        → Within (r .v * 268435456) (r .v * 17304) (r .v * 15121) (portPower (r .v) (P r) q (pairs left))
+    port-power = calls.port-power call e
+
+    -- So the powers of any two ports differ by at most 32,425 for each layer.
+    pub ports-differ : (q q′ : ℕ) → q < P r → q′ < P r
+        → portPower (r .v) (P r) q (pairs left) ≤ portPower (r .v) (P r) q′ (pairs left) + r .v * 32425
+    ports-differ q q′ h h′ = omega (arith, port-power q h .high, port-power q′ h′ .low)
+
+-- Both limits of a weight's power occur in the table, so neither can be lowered.
+pub power-limits-occur : (power (weight 14) + 17304 ≡ 268435456) × (power (weight 9) ≡ 268435456 + 15121)
+power-limits-occur = (power-lowest, power-highest)
+
+-- And a buffer is too short for n weights, as 11 has it, exactly when it has fewer than 2·n numbers.
+pub room-for-weights : (lent : List ℤ) (n : ℕ) → (length lent / 2 < n) ↔ (length lent < 2 * n)
+room-for-weights lent n = (λ h. omega arith, λ h. omega arith)

@@ -12,12 +12,11 @@ use Rattle.weight.specs.declared.Weight.{Weight}
 use Rattle.weight.specs.Table.{weight, numbers}
 use Rattle.weight.proofs.Pairs.{length-numbers, numbers-x, numbers-y}
 use Rattle.codebook.specs.declared.Report.{Report}
-use Rattle.codebook.specs.Settings.{ports}
 use Rattle.codebook.specs.Matrix.{layers, join, block, columnOf, matrix}
 use Rattle.codebook.specs.Refusals.{InRange}
 use Rattle.codebook.proofs.Known.{ports-few}
 use Rattle.codebook.proofs.Layers.{length-matrix}
-use Rattle.precoder.specs.Answer.{weightsOf}
+use Rattle.precoder.specs.Answer.{P, weightsOf}
 use Rattle.precoder.specs.Layer.{Reduced}
 use Rattle.precoder.proofs.Written.{stored}
 use Rattle.precoder.proofs.Columns.{column-below}
@@ -77,18 +76,18 @@ module _ (r : Report) where
   matrix-below = below-join (columnOf r) (λ x. column-below (x .co) (block r (x .beam))) (layers r)
 
   -- at most 8 layers of 32 ports
-  pub entries-few : InRange r → r .v * ports (r .n1) (r .n2) ≤ 256
+  pub entries-few : InRange r → r .v * P r ≤ 256
   entries-few h =
-      le-trans (mul-le-mul-right (ports (r .n1) (r .n2)) (h .few)) (omega (arith, ports-few (r .n1) (r .n2) (h .setting)))
+      le-trans (mul-le-mul-right (P r) (h .few)) (omega (arith, ports-few (r .n1) (r .n2) (h .setting)))
 
-  pub length-weights : InRange r → length (weightsOf r) ≡ 2 * (r .v * ports (r .n1) (r .n2))
+  pub length-weights : InRange r → length (weightsOf r) ≡ 2 * (r .v * P r)
   unfolding weightsOf
   length-weights h =
       length-numbers (map weight (matrix r))
       ∙ ap (λ (m : ℕ). 2 * m) (length-map (matrix r) weight ∙ length-matrix r h)
 
   -- a list that begins with the matrix
-  module _ (h : InRange r) {phases : List ℕ} (rest : List ℕ) (n : ℕ) (e : n ≡ r .v * ports (r .n1) (r .n2))
+  module _ (h : InRange r) {phases : List ℕ} (rest : List ℕ) (n : ℕ) (e : n ≡ r .v * P r)
       (q : phases ≡ matrix r ++ rest) where
     long : length (matrix r) ≡ n
     long = length-matrix r h ∙ sym e

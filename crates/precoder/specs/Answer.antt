@@ -11,10 +11,13 @@ use Rattle.codebook.specs.Matrix.{matrix}
 use Rattle.codebook.specs.Refusals.{refusal}
 use Rattle.precoder.specs.declared.Record.{Record}
 
+-- the ports of a report's setting
+abbrev pub P : Report → ℕ
+P r = ports (r .n1) (r .n2)
+
 -- the record of a report, by the number of its refusal: on acceptance P, v and the scale v·P, and otherwise zeros
 abbrev pub recordOf : Report → ℕ → Record
-recordOf r zero =
-    record { refusal = 0; ports = ports (r .n1) (r .n2); layers = r .v; scale = r .v * ports (r .n1) (r .n2) }
+recordOf r zero = record { refusal = 0; ports = P r; layers = r .v; scale = r .v * P r }
 recordOf r (suc k) = record { refusal = suc k; ports = 0; layers = 0; scale = 0 }
 
 -- the buffer, by the number of the refusal: the answer and then what was lent, and otherwise all of it as lent

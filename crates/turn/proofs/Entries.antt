@@ -1,5 +1,5 @@
 -- What stands where in a column, and the phases of a beam as they are printed. Assumes nothing.
-use mathlib.Core.Path.{_≡_, refl, sym, ap, ap₂, _∙_, subst}
+use mathlib.Core.Path.{_≡_, sym, ap, ap₂, _∙_, subst}
 use mathlib.Core.Logic.{inl, inr}
 use mathlib.Core.List.{List, [], _∷_, _++_, map}
 use Prim.Native.Nat.{ℕ, zero, suc, _+_, _*_, _/_, _%_, _<_}
@@ -10,13 +10,8 @@ use lib.ListN.{length, getD, length-map, List·getD-append}
 use lib.Seq.{getD-at, getD-append-add}
 use Rattle.turn.specs.Phase.{turn, phase}
 use Rattle.turn.specs.Column.{Setting, Divides, steps, product, grid, step, beam, column}
-use Rattle.turn.proofs.Lists.{length-steps, length-product, length-beam}
+use Rattle.turn.proofs.Lists.{map-at, length-steps, length-product, length-beam}
 use Rattle.turn.proofs.Steps.{left-pos}
-
-getD-map : (f : ℕ → ℕ) (xs : List ℕ) (i : ℕ) → i < length xs → getD (map f xs) i 0 ≡ f (getD xs i 0)
-getD-map f [] i h = absurd (not-suc-le-zero h)
-getD-map f (x ∷ xs) zero h = refl
-getD-map f (x ∷ xs) (suc i) h = getD-map f xs i (le-of-suc-le-suc h)
 
 pub steps-entry : (n s i : ℕ) → i < n → getD (steps n s) i 0 ≡ i * s
 unfolding steps
@@ -33,7 +28,7 @@ product-entry [] ys i j h k = absurd (not-suc-le-zero h)
 product-entry (x ∷ xs) ys zero j h k =
     ap (λ (n : ℕ). getD (map (λ y. x + y) ys ++ product xs ys) n 0) (omega arith)
     ∙ List·getD-append (map (λ y. x + y) ys) (product xs ys) 0 j (omega (arith, length-map ys (λ y. x + y)))
-    ∙ getD-map (λ y. x + y) ys j k
+    ∙ map-at (λ y. x + y) ys j 0 0 k
 product-entry (x ∷ xs) ys (suc i) j h k =
     ap (λ (n : ℕ). getD (map (λ y. x + y) ys ++ product xs ys) n 0) (omega (arith, length-map ys (λ y. x + y)))
     ∙ getD-append-add (map (λ y. x + y) ys) (product xs ys) (i * length ys + j) 0
@@ -56,7 +51,7 @@ pub column-entry : (co b : List ℕ) (q i : ℕ) → q < length co → i < lengt
     → getD (column co b) (q * length b + i) 0 ≡ phase (getD co q 0 + getD b i 0)
 unfolding column
 column-entry co b q i h k =
-    getD-map phase (product co b) (q * length b + i) (subst (λ (n : ℕ). q * length b + i < n) (sym (length-product co b)) (digits-lt h k))
+    map-at phase (product co b) (q * length b + i) 0 0 (subst (λ (n : ℕ). q * length b + i < n) (sym (length-product co b)) (digits-lt h k))
     ∙ ap phase (product-entry co b q i h k)
 
 -- ---- beams
