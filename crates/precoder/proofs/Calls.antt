@@ -1,13 +1,12 @@
 -- What a call gives and leaves, by its contract: the record, the buffer, and the layers and weights in it. Assumes nothing.
-use mathlib.Core.Path.{_≡_, refl, sym, ap, _∙_, subst, subst₂}
+use mathlib.Core.Path.{_≡_, sym, ap, _∙_, subst, subst₂}
 use mathlib.Core.Logic.{_≢_, _↔_}
-use mathlib.Core.List.{List, [], _∷_, _++_, map, append-assoc}
-use Prim.Native.Nat.{ℕ, zero, suc, _+_, _*_, _<_, _≤_}
-use native.Mathlib.Nat.{mul-le-mul-right}
+use mathlib.Core.List.{List, _++_, map, append-assoc}
+use Prim.Native.Nat.{ℕ, _*_, _<_, _≤_}
 use native.Mathlib.Omega.{arith}
 use lib.IntN.{ℤ, natAbs}
-use lib.ListN.{length, take, drop, getD, replicate, length-append, length-drop, length-map, List·getD-append}
-use lib.Seq.{drop-append-le, take-append-le}
+use lib.ListN.{length, drop, getD, replicate, length-append, length-map, List·getD-append}
+use lib.Seq.{drop-append-le}
 use Rattle.turn.specs.Exact.{Orthogonal}
 use Rattle.turn.proofs.Lists.{map-at}
 use Rattle.turn.proofs.Cancel.{cancels-orthogonal}
@@ -32,6 +31,7 @@ use Rattle.precoder.specs.declared.Record.{Record}
 use Rattle.precoder.specs.Answer.{P, recordOf, Answers, Phases, Weights, weightsOf, layer}
 use Rattle.precoder.proofs.Answers.{record-number, record-refused, buffer-refused, buffer-accepted}
 use Rattle.precoder.proofs.Expanded.{length-weights}
+use Rattle.precoder.proofs.Parts.{layer-before, layer-map}
 
 -- ---- any call
 
@@ -40,8 +40,8 @@ module _ {A : Type 0} {r : Report} {mask : List ℕ} {ranks room : ℕ} {answer 
   pub number-given : given .refusal ≡ refusal r mask ranks room
   number-given = ap (λ (x : Record). x .refusal) (call .record-is) ∙ record-number r (refusal r mask ranks room)
 
-  module _ (h : given .refusal ≡ 0 → ⊥) where
-    some : refusal r mask ranks room ≡ 0 → ⊥
+  module _ (h : given .refusal ≢ 0) where
+    some : refusal r mask ranks room ≢ 0
     some z = h (number-given ∙ z)
 
     pub left-refused : left ≡ lent
@@ -66,6 +66,18 @@ module _ {A : Type 0} {r : Report} {mask : List ℕ} {ranks room : ℕ} {answer 
 
     pub left-accepted : (n : ℕ) → length answer ≡ n → left ≡ answer ++ drop n lent
     left-accepted n l = call .buffer-is ∙ buffer-accepted (refusal r mask ranks room) answer lent n none-given l
+
+    -- its matrix has an entry for each layer and port
+    pub entries : length (matrix r) ≡ r .v * P r
+    entries = length-matrix r (accepted .in-range)
+
+    -- in which any two layers are orthogonal
+    pub layers-orthogonal : (j k : ℕ) → j < r .v → k < r .v → j ≢ k
+        → Orthogonal (layer (P r) j (matrix r)) (layer (P r) k (matrix r))
+    layers-orthogonal j k h i ne =
+        let range = accepted .in-range in
+        subst₂ Orthogonal (sym (matrix-layer r range j h)) (sym (matrix-layer r range k i))
+        (cancels-orthogonal _ _ (layers-cancel r range j k h i ne))
 
     -- the bits that it reads are ones
     pub bits-read : map (bit mask) (bitsRead r) ≡ replicate (length (bitsRead r)) 1
@@ -103,59 +115,27 @@ longer {r} {mask} {ranks} {room} {room′} {answer} {lent} more n l fits h call 
           ∙ ap (λ xs. xs ++ more) (sym (left-accepted call e n l)),
     )
 
--- ---- layers
-
--- a whole layer of a list is one of the list with more after it
-layer-before : {A : Type 0} (p j : ℕ) (xs ys : List A) → j * p + p ≤ length xs → layer p j (xs ++ ys) ≡ layer p j xs
-layer-before p j xs ys h =
-    ap (take p) (drop-append-le (j * p) xs ys (omega arith))
-    ∙ take-append-le p (drop (j * p) xs) ys (rw length-drop (omega arith))
-
-module _ {A B : Type 0} (f : A → B) where
-  drop-map : (n : ℕ) (xs : List A) → drop n (map f xs) ≡ map f (drop n xs)
-  drop-map zero xs = refl
-  drop-map (suc n) [] = refl
-  drop-map (suc n) (x ∷ xs) = drop-map n xs
-
-  take-map : (n : ℕ) (xs : List A) → take n (map f xs) ≡ map f (take n xs)
-  take-map zero xs = refl
-  take-map (suc n) [] = refl
-  take-map (suc n) (x ∷ xs) = ap (λ (ys : List B). f x ∷ ys) (take-map n xs)
-
-  layer-map : (p j : ℕ) (xs : List A) → layer p j (map f xs) ≡ map f (layer p j xs)
-  layer-map p j xs = ap (take p) (drop-map (j * p) xs) ∙ take-map p (drop (j * p) xs)
-
 -- ---- an accepted call of `phases`
-
--- a layer's places are among the entries
-layer-fits : (p v j : ℕ) → j < v → j * p + p ≤ v * p
-layer-fits p v j h = omega (arith, mul-le-mul-right p h)
 
 module _ {r : Report} {mask : List ℕ} {ranks : ℕ} {lent : List ℕ} {given : Record} {left : List ℕ}
     (call : Phases r mask ranks lent given left) (e : given .refusal ≡ 0) where
-  pub length-answer : length (matrix r) ≡ r .v * P r
-  length-answer = length-matrix r (accepted call e .in-range)
-
   pub left-matrix : left ≡ matrix r ++ drop (r .v * P r) lent
-  left-matrix = left-accepted call e _ length-answer
+  left-matrix = left-accepted call e _ (entries call e)
 
   -- the layers in the buffer are those of the matrix
-  pub left-layer : (j : ℕ) → j < r .v
-      → layer (P r) j left ≡ columnOf r (getD (layers r) j (past r))
+  left-layer : (j : ℕ) → j < r .v → layer (P r) j left ≡ layer (P r) j (matrix r)
   left-layer j h =
       ap (layer (P r) j) left-matrix
-      ∙ layer-before (P r) j (matrix r) _ (omega (arith, length-answer, layer-fits (P r) (r .v) j h))
-      ∙ matrix-layer r (accepted call e .in-range) j h
+      ∙ layer-before (P r) (r .v) j (matrix r) (drop (r .v * P r) lent) h (entries call e)
 
-  pub layers-orthogonal : (j k : ℕ) → j < r .v → k < r .v → j ≢ k → Orthogonal (layer (P r) j left) (layer (P r) k left)
-  layers-orthogonal j k h i ne =
-      subst₂ Orthogonal (sym (left-layer j h)) (sym (left-layer k i))
-      (cancels-orthogonal _ _ (layers-cancel r (accepted call e .in-range) j k h i ne))
+  pub buffer-orthogonal : (j k : ℕ) → j < r .v → k < r .v → j ≢ k → Orthogonal (layer (P r) j left) (layer (P r) k left)
+  buffer-orthogonal j k h i ne =
+      subst₂ Orthogonal (sym (left-layer j h)) (sym (left-layer k i)) (layers-orthogonal call e j k h i ne)
 
   pub longer-phases : {given′ : Record} {left′ : List ℕ} (more : List ℕ)
       → Phases r mask ranks (lent ++ more) given′ left′ → (given′ ≡ given) × (left′ ≡ left ++ more)
   longer-phases more call′ =
-      longer more _ length-answer (accepted call e .fits) (simp length-append (omega arith)) call call′ e
+      longer more _ (entries call e) (accepted call e .fits) (simp length-append (omega arith)) call call′ e
 
 -- ---- an accepted call of `weights`
 
@@ -167,6 +147,7 @@ module _ {r : Report} {mask : List ℕ} {ranks : ℕ} {lent : List ℤ} {given :
   pub left-weights : left ≡ weightsOf r ++ drop (2 * (r .v * P r)) lent
   left-weights = left-accepted call e _ length-numbers
 
+  -- the buffer read as weights: those of the matrix, and then what was lent
   rest : List Weight
   rest = pairs (drop (2 * (r .v * P r)) lent)
 
@@ -174,19 +155,15 @@ module _ {r : Report} {mask : List ℕ} {ranks : ℕ} {lent : List ℤ} {given :
   unfolding weightsOf rest
   left-pairs = ap pairs left-weights ∙ pairs-numbers (map weight (matrix r)) (drop (2 * (r .v * P r)) lent)
 
-  entries : length (matrix r) ≡ r .v * P r
-  entries = length-matrix r (accepted call e .in-range)
-
   long-weights : length (map weight (matrix r)) ≡ r .v * P r
-  long-weights = length-map (matrix r) weight ∙ entries
+  long-weights = length-map (matrix r) weight ∙ entries call e
 
   -- the weights of a layer in the buffer
   pub left-layer-weights : (j : ℕ) → j < r .v
       → layer (P r) j (pairs left) ≡ map weight (columnOf r (getD (layers r) j (past r)))
   left-layer-weights j h =
       ap (layer (P r) j) left-pairs
-      ∙ layer-before (P r) j (map weight (matrix r)) rest
-      (omega (arith, long-weights, layer-fits (P r) (r .v) j h))
+      ∙ layer-before (P r) (r .v) j (map weight (matrix r)) rest h long-weights
       ∙ layer-map weight (P r) j (matrix r)
       ∙ ap (map weight) (matrix-layer r (accepted call e .in-range) j h)
 
@@ -195,8 +172,9 @@ module _ {r : Report} {mask : List ℕ} {ranks : ℕ} {lent : List ℤ} {given :
   left-weight i h =
       ap (λ (ws : List Weight). getD ws i none) left-pairs
       ∙ List·getD-append (map weight (matrix r)) rest none i (omega (arith, long-weights))
-      ∙ map-at weight (matrix r) i 0 none (omega (arith, entries))
+      ∙ map-at weight (matrix r) i 0 none (omega (arith, entries call e))
 
+  -- its layers, its weights and its ports
   pub cross-sums : (j k : ℕ) → j < r .v → k < r .v → j ≢ k
       → let one = layer (P r) j (pairs left) in let other = layer (P r) k (pairs left) in
       (natAbs (cross re one other) ≤ limit * P r) × (natAbs (cross im one other) ≤ limit * P r)

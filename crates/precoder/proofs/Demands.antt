@@ -21,13 +21,19 @@ use Rattle.codebook.specs.Refusals.{onSetting, onRank, onIndices, onAnswer, ref
 use Rattle.codebook.proofs.First.{None, FirstOf}
 use Rattle.precoder.specs.declared.Record.{Record}
 use Rattle.precoder.specs.Answer.{P, recordOf, bufferOf, Answers, Phases, Weights, weightsOf, layer}
+use Rattle.precoder.proofs.Answers.{one-answer}
 use Rattle.precoder.proofs.Calls as calls
 
 module _ (r : Report) (mask : List ℕ) (ranks : ℕ) where
-  -- 1a. Every input has an answer, whatever the report, the masks and the buffer.
+  -- 1a. Every input has an answer, whatever the report, the masks and the buffer, and only one.
   pub every-input-answered : {A : Type 0} (room : ℕ) (answer lent : List A) → let number = refusal r mask ranks room in
       Answers r mask ranks room answer lent (recordOf r number) (bufferOf number answer lent)
   every-input-answered room answer lent = record { record-is = refl; buffer-is = refl }
+
+  pub answered-once : {A : Type 0} {room : ℕ} {answer lent left left′ : List A} {given given′ : Record}
+      → Answers r mask ranks room answer lent given left → Answers r mask ranks room answer lent given′ left′
+      → (given ≡ given′) × (left ≡ left′)
+  answered-once = one-answer
 
   -- 1b. The refusals are 1 to 11, in this order. The number given is that of the first fault: its test holds, and none
   -- before it does.
@@ -53,7 +59,7 @@ module _ (r : Report) (mask : List ℕ) (ranks : ℕ) where
   -- 2a. An accepted report leaves its matrix, v·P phases, and after it what was lent. Its record holds 0, P, v and v·P.
   pub accepted-as-matrix : {lent left : List ℕ} {given : Record} → Phases r mask ranks lent given left → given .refusal ≡ 0
       → (left ≡ matrix r ++ drop (r .v * P r) lent) × (length (matrix r) ≡ r .v * P r) × (given ≡ recordOf r 0)
-  accepted-as-matrix call e = (calls.left-matrix call e, calls.length-answer call e, calls.given-accepted call e)
+  accepted-as-matrix call e = (calls.left-matrix call e, calls.entries call e, calls.given-accepted call e)
 
   module _ {A : Type 0} {room : ℕ} {answer lent left : List A} {given : Record}
       (call : Answers r mask ranks room answer lent given left) where
@@ -80,10 +86,16 @@ module _ (r : Report) (mask : List ℕ) (ranks : ℕ) where
     pub weights-of-phases : (i : ℕ) → i < r .v * P r → getD (pairs left) i none ≡ weight (getD (matrix r) i 0)
     weights-of-phases = calls.left-weight call e
 
-  -- 3a. Any two different layers are exactly orthogonal: their phases satisfy the rule of counts.
-  pub layers-orthogonal : {lent left : List ℕ} {given : Record} → Phases r mask ranks lent given left → given .refusal ≡ 0
-      → (j k : ℕ) → j < r .v → k < r .v → j ≢ k → Orthogonal (layer (P r) j left) (layer (P r) k left)
+  -- 3a. Any two different layers of an accepted report's matrix are exactly orthogonal: by the rule of counts the sum over
+  -- the ports of conjugate(first) times second is zero. So are the layers that stand in the buffer of `phases`.
+  pub layers-orthogonal : {A : Type 0} {room : ℕ} {answer lent left : List A} {given : Record}
+      → Answers r mask ranks room answer lent given left → given .refusal ≡ 0
+      → (j k : ℕ) → j < r .v → k < r .v → j ≢ k → Orthogonal (layer (P r) j (matrix r)) (layer (P r) k (matrix r))
   layers-orthogonal = calls.layers-orthogonal
+
+  pub buffer-orthogonal : {lent left : List ℕ} {given : Record} → Phases r mask ranks lent given left → given .refusal ≡ 0
+      → (j k : ℕ) → j < r .v → k < r .v → j ≢ k → Orthogonal (layer (P r) j left) (layer (P r) k left)
+  buffer-orthogonal = calls.buffer-orthogonal
 
   module _ {lent left : List ℤ} {given : Record} (call : Weights r mask ranks lent given left) (e : given .refusal ≡ 0) where
     -- 3b. Of any two different layers, the real and the imaginary part of the weights' cross-sum are each at most

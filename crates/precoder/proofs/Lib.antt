@@ -5,6 +5,7 @@ pub mod Columns
 pub mod Framing
 pub mod Digits
 pub mod Answers
+pub mod Parts
 pub mod Calls
 pub mod Demands
 pub mod Worked
