@@ -1,4 +1,5 @@
--- The weights of phases, as they are stored over a lent list: where the two numbers of each stand. Assumes nothing.
+-- The weights of phases, as they are stored over a lent list, two numbers each; and the phases of a report's matrix, from
+-- which its weights are made. Assumes nothing.
 use mathlib.Core.Path.{_≡_, sym, ap, _∙_}
 use mathlib.Core.List.{List, [], _∷_, _++_, map}
 use Prim.Native.Nat.{ℕ, zero, suc, _+_, _*_, _<_, _≤_}
@@ -82,9 +83,7 @@ module _ (r : Report) where
 
   pub length-weights : InRange r → length (weightsOf r) ≡ 2 * (r .v * P r)
   unfolding weightsOf
-  length-weights h =
-      length-numbers (map weight (matrix r))
-      ∙ ap (λ (m : ℕ). 2 * m) (length-map (matrix r) weight ∙ length-matrix r h)
+  length-weights h = length-numbers _ ∙ ap (λ (m : ℕ). 2 * m) (length-map (matrix r) _ ∙ length-matrix r h)
 
   -- a list that begins with the matrix
   module _ (h : InRange r) {phases : List ℕ} (rest : List ℕ) (n : ℕ) (e : n ≡ r .v * P r)

@@ -1,11 +1,13 @@
 -- The worked reports of 01, as one table, and one theorem that every row of it holds. Assumes nothing.
 use mathlib.Core.Path.{_≡_, refl}
-use mathlib.Core.List.{List, [], _∷_, map}
+use mathlib.Core.List.{List, [], _∷_, map, zipWith}
 use Prim.Native.Nat.{ℕ, _*_}
+use lib.IntN.{pos, negℤ}
 use lib.ListN.{length, take, drop, replicate}
 use Rattle.turn.specs.Phase.{third, difference}
 use Rattle.turn.specs.Column.{steps, product, grid, step, column}
 use Rattle.turn.specs.Exact.{count, differences}
+use Rattle.weight.specs.Table.{firstQuarter, firstHalf, xs, ys, table, weight, numbers}
 use Rattle.codebook.specs.declared.Report.{Report}
 use Rattle.codebook.specs.Settings.{some, settings, isSetting, maskBytes}
 use Rattle.codebook.specs.Columns.{ranks, quarters, modeTwo, halfLength, n, base}
@@ -15,7 +17,7 @@ use Rattle.codebook.specs.Matrix.{join, addedOf, whole, quartered, layers, bloc
 use Rattle.codebook.specs.Masks.{bit, beamBit, twoPortBit, bitsRead, isZero, barred, rankBarred}
 use Rattle.codebook.specs.Refusals.{first, onSetting, onRank, onIndices, onAnswer, refusals, refusal}
 use Rattle.precoder.specs.declared.Record.{Record}
-use Rattle.precoder.specs.Answer.{recordOf, bufferOf}
+use Rattle.precoder.specs.Answer.{recordOf, bufferOf, weightsOf}
 
 -- a report with its beam mask, its rank mask and the length of the lent buffer; the record that it is given; and entries
 -- of the buffer afterwards, from a place on
@@ -136,3 +138,13 @@ unfolding
     join ranks modeTwo halfLength n base kThree kRows offsets moved beams
     addedOf whole layers block columnOf matrix
 case-four = refl
+
+-- case 1 in weights
+pub case-one-weights : weightsOf (asks 2 1 1 1 1 0 0 1)
+    ≡ pos 16384 ∷ pos 0 ∷ pos 11585 ∷ pos 11585 ∷ pos 0 ∷ pos 16384 ∷ negℤ (pos 11585) ∷ pos 11585 ∷ []
+unfolding
+    steps product grid step column
+    join ranks modeTwo halfLength n base kRows offsets moved beams
+    addedOf whole layers block columnOf matrix
+    firstQuarter firstHalf xs ys table zipWith weight numbers weightsOf
+case-one-weights = refl

@@ -1,4 +1,4 @@
--- What the contracts cite: first that of the public function, then those of the functions below it.
+-- What the contracts cite: first those of the public functions, then those of the functions below them.
 pub mod Answer
 pub mod Layer
 pub mod Digit

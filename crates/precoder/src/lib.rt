@@ -53,7 +53,7 @@ fn accepted(r: Report) -> Record
 // Writes the phases of a report's precoder, in parts of a turn: layer after layer, each of P entries. `beams` is the beam
 // mask and `ranks` the rank mask: a report that reads a zero bit is refused. A refusal is given by its number and leaves
 // the buffer as lent; entries past an answer stay as lent too. Nothing is pulled into range: every setting, mask, report
-// and buffer has its answer.
+// and buffer has its answer. (2,1) with mode 1, one layer, i11 = 1, i2 = 1 and the rest 0 gives 0 24 48 72.
 pub fn phases(r: Report, beams: &[u8], ranks: u8, out: &mut [u8]) -> Record
     ensures { λ a. ⌜ Phases r (now (beams .entry)) ranks (now (out .entry)) a (now (out .exit)) ⌝ }
 {
@@ -65,8 +65,9 @@ pub fn phases(r: Report, beams: &[u8], ranks: u8, out: &mut [u8]) -> Record
     accepted(r)
 }
 
-// Writes the weights of a report's precoder: for each entry that `phases` writes x and then y, 16 bits each, the pair of the
-// table at its phase. Masks and refusals are those of `phases`, and 11 asks for 2·v·P numbers.
+// Writes the weights of a report's precoder: for each entry that `phases` writes, x and then y, the pair of the table at
+// its phase. Masks and refusals are those of `phases`, and 11 asks for 2·v·P numbers. The report above gives
+// 16384 0 11585 11585 0 16384 -11585 11585.
 pub fn weights(r: Report, beams: &[u8], ranks: u8, out: &mut [i16]) -> Record
     ensures { λ a. ⌜ Weights r (now (beams .entry)) ranks (now (out .entry)) a (now (out .exit)) ⌝ }
 {
