@@ -49,7 +49,8 @@ module _ {A : Type 0} {r : Report} {mask : List ℕ} {ranks room : ℕ} {answer 
 
     pub first-fault : FirstOf (refusals r mask ranks room) (given .refusal)
     unfolding refusal
-    first-fault = subst (FirstOf (refusals r mask ranks room)) (sym number-given) (first-of (refusals r mask ranks room) some)
+    first-fault =
+        subst (FirstOf (refusals r mask ranks room)) (sym number-given) (first-of (refusals r mask ranks room) some)
 
     pub given-refused : given ≡ record { refusal = given .refusal; ports = 0; layers = 0; scale = 0 }
     given-refused = call .record-is ∙ sym (record-refused r _ some) ∙ rw number-given

@@ -67,8 +67,8 @@ module _ (r : Report) (mask : List ℕ) (ranks : ℕ) where
     pub accepted-exactly : given .refusal ≡ 0 ↔ None (refusals r mask ranks room)
     accepted-exactly = calls.accepted-exactly call
 
-    -- 2c. Every bit of the beam mask that an accepted report reads is one. Above two ports these are the bits of its layers'
-    -- beams: no accepted report has a layer whose beam is barred.
+    -- 2c. Every bit of the beam mask that an accepted report reads is one. Above two ports these are the bits of its
+    -- layers' beams: no accepted report has a layer whose beam is barred.
     pub bits-read-are-one : given .refusal ≡ 0 → map (bit mask) (bitsRead r) ≡ replicate (length (bitsRead r)) 1
     bits-read-are-one = calls.bits-read call
 
@@ -76,9 +76,10 @@ module _ (r : Report) (mask : List ℕ) (ranks : ℕ) where
         → map (λ x. bit mask (beamBit (r .n2) (x .beam))) (layers r) ≡ replicate (r .v) 1
     layers-not-barred = calls.layers-read call
 
-  -- 2d. The weights that an accepted report leaves are the table's pairs at its phases, x and then y of each: 2·v·P numbers,
-  -- and after them what was lent.
-  module _ {lent left : List ℤ} {given : Record} (call : Weights r mask ranks lent given left) (e : given .refusal ≡ 0) where
+  -- 2d. The weights that an accepted report leaves are the table's pairs at its phases, x and then y of each: 2·v·P
+  -- numbers, and after them what was lent.
+  module _ {lent left : List ℤ} {given : Record}
+      (call : Weights r mask ranks lent given left) (e : given .refusal ≡ 0) where
     pub accepted-as-weights : (left ≡ weightsOf r ++ drop (2 * (r .v * P r)) lent)
         × (length (weightsOf r) ≡ 2 * (r .v * P r)) × (given ≡ recordOf r 0)
     accepted-as-weights = (calls.left-weights call e, calls.length-numbers call e, calls.given-accepted call e)
@@ -97,7 +98,8 @@ module _ (r : Report) (mask : List ℕ) (ranks : ℕ) where
       → (j k : ℕ) → j < r .v → k < r .v → j ≢ k → Orthogonal (layer (P r) j left) (layer (P r) k left)
   buffer-orthogonal = calls.buffer-orthogonal
 
-  module _ {lent left : List ℤ} {given : Record} (call : Weights r mask ranks lent given left) (e : given .refusal ≡ 0) where
+  module _ {lent left : List ℤ} {given : Record}
+      (call : Weights r mask ranks lent given left) (e : given .refusal ≡ 0) where
     -- 3b. Of any two different layers, the real and the imaginary part of the weights' cross-sum are each at most
     -- 32,768·P from zero.
     pub cross-sums-small : (j k : ℕ) → j < r .v → k < r .v → j ≢ k

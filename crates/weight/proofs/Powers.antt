@@ -10,7 +10,8 @@ use Rattle.weight.specs.Table.{none}
 use Rattle.weight.specs.Products.{power, Within, portPower}
 
 -- where each of v times p weights has a power within n below and m above c, a port has one within v times these
-pub port-within : (c n m v p q : ℕ) (ws : List Weight) → q < p → ((i : ℕ) → i < v * p → Within c n m (power (getD ws i none)))
+pub port-within : (c n m v p q : ℕ) (ws : List Weight) → q < p
+    → ((i : ℕ) → i < v * p → Within c n m (power (getD ws i none)))
     → Within (v * c) (v * n) (v * m) (portPower v p q ws)
 unfolding portPower
 port-within c n m zero p q ws h each = record { low = omega arith; high = omega arith }

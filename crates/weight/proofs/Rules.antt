@@ -120,7 +120,9 @@ powers = tt
 
 pub power-tight : (e : ℕ) → Within fullPower powerBelow powerAbove (power (weight e))
 unfolding power?
-power-tight e = subst (λ (v : Weight). Within fullPower powerBelow powerAbove (power v)) (weight-phase e) (record { low = t .0; high = t .1 })
+power-tight e =
+    subst (λ (v : Weight). Within fullPower powerBelow powerAbove (power v)) (weight-phase e)
+    (record { low = t .0; high = t .1 })
   where
     w : Weight
     w = weight (phase e)

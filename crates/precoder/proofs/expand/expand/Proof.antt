@@ -1,4 +1,5 @@
--- `expand::expand` meets its contract: each turn looks up the pair of one phase, and stores its two numbers. Assumes nothing.
+-- `expand::expand` meets its contract: each turn looks up the pair of one phase and stores its two numbers.
+-- Assumes nothing.
 use mathlib.Core.Path.{_≡_, refl, ap, _∙_}
 use mathlib.Core.List.{List, _++_, map}
 use Prim.Native.Nat.{_+_, _-_, _*_, _^_, _≤_, _<_}
@@ -97,8 +98,10 @@ loop-again c =
     let l = t .before .loop in
     let s = t .before .before in
     let e = getD (s .args .phases .now) (l .i) 0 in
-    let ex = local (c .before .x .given) ∙ ap (λ (ns : List ℤ). getD ns (2 * e) (pos 0)) (s .pre .0) ∙ table-x e (below t) in
-    let ey = local (c .y .given) ∙ ap (λ (ns : List ℤ). getD ns (2 * e + 1) (pos 0)) (s .pre .0) ∙ table-y e (below t) in (
+    let stored-x = ap (λ (ns : List ℤ). getD ns (2 * e) (pos 0)) (s .pre .0) in
+    let stored-y = ap (λ (ns : List ℤ). getD ns (2 * e + 1) (pos 0)) (s .pre .0) in
+    let ex = local (c .before .x .given) ∙ stored-x ∙ table-x e (below t) in
+    let ey = local (c .y .given) ∙ stored-y ∙ table-y e (below t) in (
       omega arith,
       omega arith,
       weight-stored (s .args .phases .now) (s .args .n) (s .pre .1) (s .args .out .now) (l .i) (l .at)
