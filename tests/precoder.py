@@ -1,47 +1,65 @@
 #!/usr/bin/env python3
-"""Tests aspenflick_phases against the complex matrices of TS 38.214, 5.2.2.2.1.
+"""Tests aspenflick_phases and aspenflick_weights against the complex matrices of TS 38.214, 5.2.2.2.1.
 
     precoder.py COMMAND..
 
-COMMAND starts the program built from batch.c, which calls aspenflick_phases once for each request on its standard input.
-The last line is `N passed, M failed`; the exit status is 0 only if N is above 0 and M is 0.
+COMMAND starts the program built from batch.c, which calls one of the two functions for each request on its standard
+input. The last line is `N passed, M failed`; the exit status is 0 only if N is above 0 and M is 0.
 
 Where the expected answers come from
 ------------------------------------
 Phases: the matrix W of a report is computed in complex numbers as the standard prints it, with its factor 1/sqrt(v P);
 the phase of an entry is read off its angle in 1/192 turns. No phase is computed in whole numbers. The quantities phi_n,
-theta_p, u_m, v_{l,m}, v~_{l,m} and the tables are those of the draft (003), and for 6 to 8 layers also those of the later
-excerpts (000, 002):
+theta_p, u_m, v_{l,m}, v~_{l,m} and the tables are those of the draft (003), and for 6 to 8 layers also those of the
+later excerpts (000, 002):
 
     Table 5.2.2.2.1-1    two ports              -5           1 layer
                    -2    settings               -6           2 layers
                    -3    k1, k2 for v=2         -7 and -8    3 and 4 layers, P < 16 and P >= 16
                    -4    k1, k2 for v=3, 4      -9 to -12    5 to 8 layers
 
+Weights: the same complex entries without their factor, times 16384, each part taken to the nearest whole number, not by
+way of the phase. No part is near a tie, and for all 192 phases the numbers are those of table.py, in 60 digits. Nothing
+is taken from the library's table.
+
 Refusals, their order, the ranges and the mask bits: 01.
 
 Points legible in none of the sources, taken from 01:
   - the matrix of 7 layers (Table -11 has 8 columns in 000, 7 above 8 in 003, 6 and a third row in 002);
   - m' of 5 layers for N2 > 1 (the subscripts of W(5) in Table -9 lack one of l, l', l'', m, m', m'');
-  - l', and with it m', of mode 2 with 2 layers (Table -6 prints 2 i11 + k1 beside l = 2 i11 + 1, but 2 i11 + 2 + k1 beside
-    l = 2 i11 + 2; in 01 it is always l + k1).
+  - l', and with it m', of mode 2 with 2 layers (Table -6 prints 2 i11 + k1 beside l = 2 i11 + 1, but 2 i11 + 2 + k1
+    beside l = 2 i11 + 2; in 01 it is always l + k1).
 Points where the sources differ from 01 or from each other, and 01 decides:
   - Table -2 puts (12,1) among 32 ports; P is 2 N1 N2, so 24. (1,1), the two ports of Table -1, is a setting in 01;
   - Table -6, mode 1, prints i12 + k1, and Table -8 prints i12, k1, for l'; it is i11 + k1;
   - v~_{l,m} is barred by three bits in 003, by the one of (2 l, m) in 01;
   - bit 0 of a mask is bit 0 of its first byte in 01; the standard has bit strings, with no bytes.
+The radius 16384 of the weights and their order, x then y, are 01's; the standard has no weights.
 
-What is sent
-------------
-  phases     every report in range of every setting, mode and rank, into a buffer just long enough and one entry longer
+What is sent, for each of the two functions
+-------------------------------------------
+  reports    every report in range of every setting, mode and rank, into a buffer just long enough, and into buffers
+             longer and shorter by one number, for weights also by two
   masks      every report in range, with only the bits it reads ones, and with each bit it reads the only zero
   ranks      every rank mask, for every setting, mode and rank
   bounds     each number of a report and both lengths on both sides of their bounds and at values that 8, 16 or 31 bits
              cut down to legal ones; all pairs up to 33 x 33 that are not settings
   order      all pairs of faults for every setting, mode and rank, and all sets of two or more faults for every setting
   random     requests drawn from legal numbers, bounds and extremes, answered by the whole model
-On a refusal the record's other numbers are 0 and the buffer is as lent. Bytes around the buffer and the mask, and the mask,
-never change. No call uses more than 1,024 bytes of stack.
+On a refusal the record's other numbers are 0 and the buffer is as lent. Bytes around the buffer and the mask, and the
+mask, never change. No call of phases uses more than 1,024 bytes of stack, no call of weights more than 2,048.
+
+What is asked of the answers, for every report
+----------------------------------------------
+These are computed from the numbers that came from the library, not from the model:
+  phases     every two layers are exactly orthogonal, by the count rule of 01, which is itself held against complex sums
+  weights    the cross-sum of every two layers, the power of every weight, the power of every port over the layers, and
+             how far the powers of two ports differ are within the limits that are proved; the worst of each is the
+             figure known for it
+Reports have only phases that are multiples of 3 or 4, which is tested. The weights of the other 96 phases are in no
+answer, so that a mistake in one of them goes unseen here; table.py checks them in the source.
+The limits on sums and powers do not tell a weight from its mirror image (x and y exchanged, or y negated); that is seen
+by the comparison with the model only.
 """
 
 import array
@@ -50,14 +68,17 @@ import collections
 import functools
 import itertools
 import math
+import operator
 import random
 import struct
 import subprocess
 import sys
 
-TURN = 192
+import table
 
-# ---- Settings (01; Table 5.2.2.2.1-2) ----------------------------------------------------------------------------------
+TURN, RADIUS, SEED = 192, 16384, 38_214
+
+# ---- Settings (01; Table 5.2.2.2.1-2) --------------------------------------------------------------------------------
 
 Setting = collections.namedtuple('Setting', 'N1 N2 O1 O2 P')
 
@@ -81,7 +102,7 @@ def ranks_of(s):
     return range(1, min(8, s.P) + 1)
 
 
-# ---- Quantities (5.2.2.2.1) --------------------------------------------------------------------------------------------
+# ---- Quantities (5.2.2.2.1) ------------------------------------------------------------------------------------------
 
 def phi(n):
     return cmath.exp(1j * cmath.pi * n / 2)
@@ -115,7 +136,7 @@ def one(s, l, m):
 # A beam by name: one of the three functions above, and l and m as the tables give them, not reduced.
 Beam = collections.namedtuple('Beam', 'vector l m')
 
-# ---- k1 and k2, in multiples of O1 and O2 ------------------------------------------------------------------------------
+# ---- k1 and k2, in multiples of O1 and O2 ----------------------------------------------------------------------------
 
 
 def table_3(N1, N2):
@@ -136,7 +157,7 @@ TABLE_4 = {(2, 1): [(1, 0)],
            (2, 2): [(1, 0), (0, 1), (1, 1)],
            (3, 2): [(1, 0), (0, 1), (1, 1), (2, 0)]}
 
-# ---- Matrices: rows of blocks, a block is a coefficient and a beam; `block_phases` puts the factor 1/sqrt(v P) ----------
+# ---- Matrices: rows of blocks, a block is a coefficient and a beam; `block` puts the factor 1/sqrt(v P) --------------
 
 ONE = Beam(one, 0, 0)
 
@@ -199,7 +220,7 @@ def W8(b, b1, b2, b3, f):
             [(f, b), (-f, b), (f, b1), (-f, b1), (1, b2), (-1, b2), (1, b3), (-1, b3)]]
 
 
-# ---- Indices (Tables 5.2.2.2.1-5 to -12) -------------------------------------------------------------------------------
+# ---- Indices (Tables 5.2.2.2.1-5 to -12) -----------------------------------------------------------------------------
 
 Report = collections.namedtuple('Report', 'N1 N2 mode v i11 i12 i13 i2')
 
@@ -246,23 +267,28 @@ def vector(s, beam):
     return beam.vector(s, beam.l, beam.m)
 
 
+def nearest(part):
+    """The whole number nearest to 16384 times a part of an entry of size 1."""
+    scaled = RADIUS * part
+    whole = round(scaled)
+    if abs(scaled - whole) > 0.499:
+        raise ArithmeticError(f'{scaled} is near a tie')
+    return whole
+
+
 @functools.lru_cache(maxsize=None)
-def block_phases(s, v, coefficient, beam):
-    """The phases of one block of W, each read off its complex entry."""
+def block(s, v, coefficient, beam):
+    """The phases and the weights of one block of W, each read off its complex entry."""
     size = 1 / math.sqrt(v * s.P)
-    phases = []
+    phases, weights = [], []
     for x in vector(s, beam):
         w = size * coefficient * x
         e = round(cmath.phase(w) * TURN / (2 * cmath.pi)) % TURN
         if abs(w - size * cmath.exp(2j * cmath.pi * e / TURN)) > 1e-9:
             raise ArithmeticError(f'{w} of {s}, v={v}, {coefficient}, {beam} is not a whole phase')
         phases.append(e)
-    return bytes(phases)
-
-
-def phases_of(s, v, rows):
-    """Layer after layer, each from the first port to the last."""
-    return b''.join([block_phases(s, v, *block) for column in zip(*rows) for block in column])
+        weights += [nearest(w.real / size), nearest(w.imag / size)]
+    return bytes(phases), struct.pack(f'<{len(weights)}h', *weights)
 
 
 def bits_of(s, v, i2, rows):
@@ -274,14 +300,37 @@ def bits_of(s, v, i2, rows):
     return tuple(sorted(s.N2 * s.O2 * l + m for l, m in rows_of_mask))
 
 
+Precoder = collections.namedtuple('Precoder', 'phases weights bits')
+
+
 @functools.lru_cache(maxsize=None)
 def precoder(report):
-    """The phases of a report in range, and the mask bits it reads."""
+    """The phases and weights of a report in range, layer after layer, and the mask bits it reads."""
     s, rows = SETTINGS[report.N1, report.N2], matrix(report)
-    return phases_of(s, report.v, rows), bits_of(s, report.v, report.i2, rows)
+    blocks = [block(s, report.v, coefficient, beam) for column in zip(*rows) for coefficient, beam in column]
+    phases, weights = zip(*blocks)
+    return Precoder(b''.join(phases), b''.join(weights), bits_of(s, report.v, report.i2, rows))
 
 
-# ---- Ranges, masks and refusals (01) -----------------------------------------------------------------------------------
+# ---- The two functions -----------------------------------------------------------------------------------------------
+
+# Its code in a request; a number of its buffer, by struct's letter and in bytes; the numbers of an entry; the most
+# bytes of stack it may use.
+Function = collections.namedtuple('Function', 'name code letter width parts most_stack')
+
+PHASES, WEIGHTS = FUNCTIONS = Function('phases', 0, 'B', 1, 1, 1024), Function('weights', 1, 'h', 2, 2, 2048)
+
+
+def needed(function, s, v):
+    """The numbers of an answer."""
+    return function.parts * v * s.P
+
+
+def answer_of(function, report):
+    return precoder(report).phases if function is PHASES else precoder(report).weights
+
+
+# ---- Ranges, masks and refusals (01) ---------------------------------------------------------------------------------
 
 @functools.lru_cache(maxsize=None)
 def values(s, mode, v):
@@ -321,7 +370,7 @@ def ones_but(s, bits):
     return (int.from_bytes(ones(s), 'little') & ~sum(1 << k for k in set(bits))).to_bytes(mask_bytes(s), 'little')
 
 
-def refusal(report, ranks, mask, length):
+def refusal(function, report, ranks, mask, length):
     """The first line of 01's refusal table that applies, or 0."""
     N1, N2, mode, v, i11, i12, i13, i2 = report
     if (N1, N2) not in SETTINGS:
@@ -338,9 +387,9 @@ def refusal(report, ranks, mask, length):
     for number, index, count in zip((6, 7, 8, 9), (i11, i12, i13, i2), values(s, mode, v)):
         if index >= count:
             return number
-    if not all(mask[k // 8] >> (k % 8) & 1 for k in precoder(report)[1]):
+    if not all(mask[k // 8] >> (k % 8) & 1 for k in precoder(report).bits):
         return 10
-    if length < v * s.P:
+    if length < needed(function, s, v):
         return 11
     return 0
 
@@ -374,40 +423,51 @@ REPORTS_IN_RANGE = {
     (16, 1): ([256, 512, 256, 256, 128, 128, 128, 128], [512, 1024])}
 ALL_REPORTS, ALL_PHASES = 78_892, 6_387_360
 
-# ---- Requests and answers, as batch.c reads and writes them ------------------------------------------------------------
+# ---- Requests and answers, as batch.c reads and writes them ----------------------------------------------------------
 
-HEAD, TAIL, RECORD, STACK = struct.Struct('<8IBH'), struct.Struct('<HB'), struct.Struct('<4I'), struct.Struct('<I')
+HEAD, TAIL, RECORD, STACK = struct.Struct('<B8IBH'), struct.Struct('<HB'), struct.Struct('<4I'), struct.Struct('<2I')
 LENT = [bytes((fill + 37 * i) % 256 for i in range(256)) for fill in range(256)]
-MOST_LINES, MOST_STACK = 20, 1024
+MOST_LINES = 20
 
 
-def as_lent(fill, length):
-    return (LENT[fill] * (length // 256 + 1))[:length]
+def as_lent(fill, size):
+    return (LENT[fill] * (size // 256 + 1))[:size]
+
+
+def numbers_of(function, data):
+    """The numbers that stand in the bytes of a function's buffer."""
+    return struct.unpack(f'<{len(data) // function.width}{function.letter}', data)
 
 
 def decode(data, at):
-    """The request that starts at a place: report, rank mask, beam mask, buffer length, first fill value."""
-    *report, ranks, mask_length = HEAD.unpack_from(data, at)
+    """The request that starts at a place: function, report, rank mask, beam mask, buffer length, first fill value."""
+    code, *report, ranks, mask_length = HEAD.unpack_from(data, at)
     at += HEAD.size
-    return (Report(*report), ranks, bytes(data[at:at + mask_length]), *TAIL.unpack_from(data, at + mask_length))
+    mask = bytes(data[at:at + mask_length])
+    return (FUNCTIONS[code], Report(*report), ranks, mask, *TAIL.unpack_from(data, at + mask_length))
 
 
-def show_request(report, ranks, mask, length, fill):
-    numbers = ' '.join(f'{name}={x}' for name, x in zip(report._fields, report))
+def show_report(report):
+    return ' '.join(f'{name}={x}' for name, x in zip(report._fields, report))
+
+
+def show_request(function, report, ranks, mask, length, fill):
     shown = mask[:32].hex() + ('..' if len(mask) > 32 else '')
-    return f'{numbers}, rank mask {ranks:02x}, beam mask {shown} ({len(mask)} bytes), buffer {length} from {fill}'
+    return (f'{function.name} of {show_report(report)}, rank mask {ranks:02x}, beam mask {shown} ({len(mask)} bytes), '
+            f'buffer {length} from {fill}')
 
 
-def show_difference(answer, came):
+def show_difference(function, answer, came):
     if len(came) < len(answer):
         return 'no answer came'
-    text = 'expected record {} {} {} {}, came {} {} {} {}'.format(*RECORD.unpack_from(answer), *RECORD.unpack_from(came))
+    text = 'expected record {} {} {} {}, '.format(*RECORD.unpack_from(answer))
+    text += 'came {} {} {} {}'.format(*RECORD.unpack_from(came))
     if came[RECORD.size] != 1:
         text += '; the mask or a guard changed'
-    entries = list(enumerate(zip(answer[RECORD.size + 1:], came[RECORD.size + 1:])))
-    different = [(place, x, y) for place, (x, y) in entries if x != y]
+    numbers = zip(*[numbers_of(function, data[RECORD.size + 1:]) for data in (answer, came)])
+    different = [(place, x, y) for place, (x, y) in enumerate(numbers) if x != y]
     if different:
-        text += '; expected entry {} {}, came {}'.format(*different[0]) + f' ({len(different)} entries differ)'
+        text += '; expected number {} {}, came {}'.format(*different[0]) + f' ({len(different)} numbers differ)'
     return text
 
 
@@ -416,10 +476,18 @@ class Tests:
 
     def __init__(self):
         self.names, self.failures = [], {}
-        self.requests, self.answers = bytearray(), bytearray()
+        self.expected = {function: collections.Counter() for function in FUNCTIONS}
+        # Each function's reports in buffers just long enough, and the places of their answers among those that came.
+        self.reports = {function: [] for function in FUNCTIONS}
+        self.deepest = [0] * len(FUNCTIONS)
+        self.stack = [self.begin(f'{function.name}: no call uses more than {function.most_stack:,} bytes of stack')
+                      for function in FUNCTIONS]
+        self.harness = self.begin('the harness answers every request and ends')
+        self.clear()
+
+    def clear(self):
+        self.requests, self.answers, self.came = bytearray(), bytearray(), b''
         self.test_of, self.request_at, self.answer_at = array.array('L'), array.array('L'), array.array('L')
-        self.expected = collections.Counter()
-        self.test = None
 
     def begin(self, name):
         """Starts a test: what is added or checked from here on belongs to it."""
@@ -435,28 +503,27 @@ class Tests:
         first, count = self.failures.get(test, (text, 0))
         self.failures[test] = first, count + 1
 
-    def add(self, report, ranks, mask, length, fill, number, test=None):
+    def add(self, function, report, ranks, mask, length, fill, number, test=None):
         """A request, and the refusal number it is built for (0 for none), which must be the model's too."""
         test = self.test if test is None else test
-        if refusal(report, ranks, mask, length) != number:
-            self.fail(test, f'{show_request(report, ranks, mask, length, fill)}: built for {number}, '
-                            f'{refusal(report, ranks, mask, length)} by the model')
+        by_model = refusal(function, report, ranks, mask, length)
+        if by_model != number:
+            request = show_request(function, report, ranks, mask, length, fill)
+            self.fail(test, f'{request}: built for {number}, {by_model} by the model')
         self.test_of.append(test)
         self.request_at.append(len(self.requests))
         self.answer_at.append(len(self.answers))
-        self.expected[number] += 1
-        self.requests += HEAD.pack(*report, ranks, len(mask)) + mask + TAIL.pack(length, fill)
+        self.expected[function][number] += 1
+        self.requests += HEAD.pack(function.code, *report, ranks, len(mask)) + mask + TAIL.pack(length, fill)
+        lent = as_lent(fill, function.width * length)
         if number:
-            self.answers += RECORD.pack(number, 0, 0, 0) + b'\1' + as_lent(fill, length)
+            self.answers += RECORD.pack(number, 0, 0, 0) + b'\1' + lent
         else:
-            phases, ports = precoder(report)[0], SETTINGS[report.N1, report.N2].P
-            self.answers += RECORD.pack(0, ports, report.v, report.v * ports) + b'\1' + phases
-            self.answers += as_lent(fill, length)[len(phases):]
+            answer, ports = answer_of(function, report), SETTINGS[report.N1, report.N2].P
+            self.answers += RECORD.pack(0, ports, report.v, report.v * ports) + b'\1' + answer + lent[len(answer):]
 
     def run(self, command):
-        """Sends all requests to one process and compares all answers."""
-        stack = self.begin('no call uses more than 1,024 bytes of stack')
-        test = self.begin('the harness answers every request and ends')
+        """Sends all requests since the last run to one process and compares all answers."""
         try:
             done = subprocess.run(command, input=self.requests, stdout=subprocess.PIPE, timeout=900)
             came, status = done.stdout, done.returncode
@@ -466,31 +533,34 @@ class Tests:
             came, status = b'', error
         whole = len(self.answers) + STACK.size
         if status != 0 or len(came) != whole:
-            self.fail(test, f'exit status {status}, {len(came)} bytes of {whole}')
-        came, deepest = came[:len(self.answers)], came[len(self.answers):]
-        deepest = STACK.unpack(deepest)[0] if len(deepest) == STACK.size else None
-        if deepest is None or deepest > MOST_STACK:
-            self.fail(stack, f'{deepest} bytes')
-        print(f'{deepest} bytes of stack at most')
-        if came != self.answers:
+            self.fail(self.harness, f'exit status {status}, {len(came)} bytes of {whole}')
+        else:
+            self.deepest = list(map(max, self.deepest, STACK.unpack_from(came, len(self.answers))))
+        self.came = memoryview(came)[:len(self.answers)]
+        if self.came != self.answers:
             ends = self.answer_at[1:] + array.array('L', [len(self.answers)])
             for k, (start, end) in enumerate(zip(self.answer_at, ends)):
-                if came[start:end] != self.answers[start:end]:
-                    self.differs(k, came[start:end], bytes(self.answers[start:end]))
+                if self.came[start:end] != self.answers[start:end]:
+                    self.differs(k, bytes(self.came[start:end]), bytes(self.answers[start:end]))
 
     def differs(self, k, came, answer):
         if self.test_of[k] in self.failures:
             self.fail(self.test_of[k], None)
             return
-        request = show_request(*decode(self.requests, self.request_at[k]))
-        self.fail(self.test_of[k], f'{request}: {show_difference(answer, came)}')
+        function, *asked = decode(self.requests, self.request_at[k])
+        self.fail(self.test_of[k], f'{show_request(function, *asked)}: {show_difference(function, answer, came)}')
 
     def report(self):
+        for function, test, deepest in zip(FUNCTIONS, self.stack, self.deepest):
+            if not 0 < deepest <= function.most_stack:
+                self.fail(test, f'{deepest} bytes')
+            expected = self.expected[function]
+            refused = ', '.join(f'{number}: {expected[number]}' for number in range(1, 12))
+            print(f'{function.name}: {sum(expected.values())} requests, {expected[0]} to be accepted, '
+                  f'by refusal {refused}; {deepest} bytes of stack at most')
         for test, (first, count) in list(self.failures.items())[:MOST_LINES]:
             more = f' ({count} such)' if count > 1 else ''
             print(f'FAIL {self.names[test]}{more}: {first}')
-        refused = ', '.join(f'{number}: {self.expected[number]}' for number in range(1, 12))
-        print(f'{len(self.test_of)} requests, {self.expected[0]} to be accepted, by refusal {refused}')
         passed = len(self.names) - len(self.failures)
         print(f'{passed} passed, {len(self.failures)} failed')
         return 0 if passed and not self.failures else 1
@@ -507,16 +577,16 @@ def name_of(s):
     return f'({s.N1},{s.N2})'
 
 
-# ---- The worked cases of 01, held against the model --------------------------------------------------------------------
+# ---- The worked cases of 01, held against the model ------------------------------------------------------------------
 
 def worked_cases(tests):
-    def number(report, mask=None, length=1000):
+    def number(report, mask=None, length=1000, function=PHASES):
         s = SETTINGS[report[:2]]
-        return refusal(Report(*report), 255, ones(s) if mask is None else mask, length)
+        return refusal(function, Report(*report), 255, ones(s) if mask is None else mask, length)
 
     def layer(k, report):
         ports = SETTINGS[report[:2]].P
-        return list(precoder(Report(*report))[0][(k - 1) * ports:k * ports])
+        return list(precoder(Report(*report)).phases[(k - 1) * ports:k * ports])
 
     def case(k, *facts):
         tests.begin(f'worked case {k}, by the model')
@@ -547,62 +617,232 @@ def worked_cases(tests):
          both(lambda mode: number((2, 1, mode, 1, 0, 1, 0, 0)) == 7),
          both(lambda mode: number((2, 1, mode, 1, 0, 0, 1, 0)) == 8),
          both(lambda mode: number((2, 1, mode, 2, 0, 0, 2, 0)) == 8))
-    case(10, number(one_layer, length=4) == 0, number(one_layer, length=3) == 11)
+    case(10, number(one_layer, length=4) == 0, number(one_layer, length=3) == 11,
+         number(one_layer, length=8, function=WEIGHTS) == 0, number(one_layer, length=7, function=WEIGHTS) == 11)
 
 
-# ---- Every report in range ---------------------------------------------------------------------------------------------
+# ---- The weights and the count rule, held against other computations -------------------------------------------------
 
-def every_report(tests):
-    all_reports = all_phases = 0
+def weights_of_phases(tests):
+    tests.begin('weights of all phases by the model and in 60 digits')
+    pairs, _ = table.expected()
+    for e, pair in enumerate(pairs):
+        w = cmath.exp(2j * cmath.pi * e / TURN)
+        tests.check((nearest(w.real), nearest(w.imag)) == pair, f'phase {e}: 60 digits give {pair}')
+
+
+@functools.lru_cache(maxsize=None)
+def sum_to_zero(phases):
+    """Whether entries of these phases have the sum zero, exactly, by the count rule of 01."""
+    count = collections.Counter(phases)
+    d = [count[e] - count[e + TURN // 2] for e in range(TURN // 2)]
+    return all(d[i] == d[64 + i] and d[32 + i] == -d[64 + i] for i in range(32))
+
+
+def count_rule(tests):
+    tests.begin('the count rule and complex sums')
+    draw, by_rule, sums = random.Random(SEED), collections.Counter(), 4_000
+    for _ in range(sums):
+        # Opposites and thirds, which sum to zero; half of the time one phase is turned.
+        phases = []
+        for _ in range(1 + draw.randrange(8)):
+            parts, e = draw.choice((2, 3)), draw.randrange(TURN)
+            phases += [(e + k * TURN // parts) % TURN for k in range(parts)]
+        if draw.random() < 0.5:
+            phases[0] = (phases[0] + draw.randrange(TURN)) % TURN
+        zero = sum_to_zero(bytes(phases))
+        by_rule[zero] += 1
+        total = abs(sum(cmath.exp(2j * cmath.pi * e / TURN) for e in phases))
+        tests.check(zero == (total < 1e-9), f'{phases}: {zero} by the rule, the sum has the size {total}')
+    tests.check(min(by_rule[True], by_rule[False]) > sums // 4, f'drawn too unevenly: {by_rule}')
+
+
+# ---- Every report in range -------------------------------------------------------------------------------------------
+
+def fill_for(function, length, n):
+    """A first fill value by which the next numbers after so many are, as lent, none that the function answers."""
+    # No phase is 192 or above. The upper byte of a weight is at most 64 or at least 192; that of the next number is 74
+    # above this one's.
+    upper = 192 + n % 64 if function is PHASES else 66 + n % 50
+    return (upper - 37 * (function.width * (length + 1) - 1)) % 256
+
+
+def every_report(tests, function):
+    all_reports = all_numbers = 0
     for s, mode, v in groups():
-        tests.begin(f'phases of {name_of(s)} mode {mode} v={v}')
-        length, mask, n = v * s.P, ones(s), 0
+        tests.begin(f'{function.name}: reports of {name_of(s)} mode {mode} v={v}')
+        length, mask, n = needed(function, s, v), ones(s), 0
         for n, report in enumerate(reports_in_range(s, mode, v), 1):
-            # The entry past the answer is lent above every phase, and no entry is lent alike in the two buffers: neither
-            # a phase too many nor a phase too few goes unseen.
-            fill = (192 + n % 64 - 37 * length) % 256
-            tests.add(report, 255, mask, length + 1, fill, 0)
-            tests.add(report, 255, mask, length, (fill + 1 + n % 255) % 256, 0)
+            # No number is lent alike in the longer buffers and in the one just long enough: neither a number too many
+            # nor a number too few goes unseen.
+            fill = fill_for(function, length, n)
+            for more in range(1, function.parts + 1):
+                tests.add(function, report, 255, mask, length + more, fill, 0)
+                tests.add(function, report, 255, mask, length - more, fill, 11)
+            tests.reports[function].append((report, len(tests.answers)))
+            tests.add(function, report, 255, mask, length, (fill + 1 + n % 255) % 256, 0)
         in_mode_1, in_mode_2 = REPORTS_IN_RANGE[s.N1, s.N2]
         listed = (in_mode_2 if mode == 2 and v <= len(in_mode_2) else in_mode_1)[v - 1]
         tests.check(n == listed, f'{n} reports in range, {listed} are listed')
-        all_reports, all_phases = all_reports + n, all_phases + n * length
-    tests.begin('totals of reports and phases')
-    tests.check((all_reports, all_phases) == (ALL_REPORTS, ALL_PHASES), f'{all_reports} reports, {all_phases} phases')
-    print(f'{all_reports} reports in range, {all_phases} phases')
+        all_reports, all_numbers = all_reports + n, all_numbers + n * length
+    tests.begin(f'{function.name}: totals of reports and numbers')
+    tests.check((all_reports, all_numbers) == (ALL_REPORTS, function.parts * ALL_PHASES),
+                f'{all_reports} reports, {all_numbers} numbers')
+    print(f'{function.name}: {all_reports} reports in range, {all_numbers} numbers')
 
 
-# ---- Masks -------------------------------------------------------------------------------------------------------------
+# ---- What is asked of the answers ------------------------------------------------------------------------------------
 
-def beam_masks(tests):
+def answered(tests, function):
+    """By setting, mode and rank: the reports, each with the bytes of its layers as they came."""
+    for (N1, N2, mode, v), reports in itertools.groupby(tests.reports[function], lambda pair: pair[0][:4]):
+        s = SETTINGS[N1, N2]
+        size = function.width * function.parts * s.P
+
+        def layers(at):
+            # What did not come counts as bytes that no test allows: equal phases of no report, weights far too large.
+            whole = bytes(tests.came[at + RECORD.size + 1:][:v * size]).ljust(v * size, b'\x7f')
+            return [whole[k * size:(k + 1) * size] for k in range(v)]
+
+        yield s, mode, v, [(report, layers(at)) for report, at in reports]
+
+
+def phases_reached(tests):
+    tests.begin('phases: those of all reports are the multiples of 3 and of 4')
+    reached = set()
+    for *_, answers in answered(tests, PHASES):
+        for _, layers in answers:
+            reached.update(*layers)
+    tests.check(reached == {e for e in range(TURN) if e % 3 == 0 or e % 4 == 0}, f'they are {sorted(reached)}')
+    print(f'phases: reports have {len(reached)} of {TURN}; the weights of the others are in no answer')
+
+
+def exact_orthogonality(tests):
+    def orthogonal(first, second):
+        return sum_to_zero(bytes([(y - x) % TURN for x, y in zip(first, second)]))
+
+    for s, mode, v, answers in answered(tests, PHASES):
+        if v > 1:
+            tests.begin(f'phases: layers of {name_of(s)} mode {mode} v={v}, exactly orthogonal')
+            for report, layers in answers:
+                tests.check(all(orthogonal(*pair) for pair in itertools.combinations(layers, 2)),
+                            f'{show_report(report)}: two layers are not orthogonal')
+
+
+Layer = collections.namedtuple('Layer', 'x y powers')
+
+
+@functools.lru_cache(maxsize=None)
+def layer_of(data):
+    """The weights of a layer, and the power of each less 16384 squared."""
+    numbers = numbers_of(WEIGHTS, data)
+    x, y = numbers[::2], numbers[1::2]
+    return Layer(x, y, [a * a + b * b - RADIUS ** 2 for a, b in zip(x, y)])
+
+
+def cross_sum(first, second):
+    """Both parts of the sum over the ports of conjugate(first) times second."""
+    def products(x, y):
+        return sum(map(operator.mul, x, y))
+
+    return (products(first.x, second.x) + products(first.y, second.y),
+            products(first.x, second.y) - products(first.y, second.x))
+
+
+class Worst:
+    """The largest value met (or the least, if `worse` is min), and the first report that has it."""
+
+    def __init__(self, worse=max):
+        self.worse, self.value, self.report = worse, None, None
+
+    def meet(self, value, report):
+        if self.report is None or self.worse(self.value, value) != self.value:
+            self.value, self.report = value, report
+
+    def figure(self, tests, name, known, limit):
+        """Tests that the worst value of all reports is the known one, and shows it beside the proved limit."""
+        found = f'{self.value:,} at {show_report(self.report)}'
+        tests.begin(f'weights: {name}')
+        tests.check(self.value == known, f'{found}; known is {known:,}')
+        print(f'weights: {name}: {found}; the proved limit is {limit:,}')
+
+
+# Proved for every report: each part of a cross-sum is at most PART P in size; a power less 16384 squared is from LOWEST
+# to HIGHEST, so within PART.
+PART, LOWEST, HIGHEST = 32_768, -17_304, 15_121
+APART = HIGHEST - LOWEST
+
+
+def cross_sums(tests):
+    worst, pairs = Worst(), 0
+    for s, mode, v, answers in answered(tests, WEIGHTS):
+        if v > 1:
+            tests.begin(f'weights: cross-sums of {name_of(s)} mode {mode} v={v}')
+            for report, layers in answers:
+                parts = [part for pair in itertools.combinations(map(layer_of, layers), 2) for part in cross_sum(*pair)]
+                largest = max(map(abs, parts))
+                tests.check(largest <= PART * s.P, f'{show_report(report)}: a part is {largest:,}')
+                worst.meet(largest, report)
+                pairs += len(parts) // 2
+    print(f'weights: {pairs} pairs of layers')
+    worst.figure(tests, 'largest part of a cross-sum', 207_900, PART * SETTINGS[worst.report[:2]].P)
+
+
+def powers(tests):
+    low, high, apart = Worst(min), Worst(), Worst()
+    for s, mode, v, answers in answered(tests, WEIGHTS):
+        tests.begin(f'weights: powers of {name_of(s)} mode {mode} v={v}')
+        for report, layers in answers:
+            by_layer = [layer_of(layer).powers for layer in layers]
+            by_port = [sum(port) for port in zip(*by_layer)]
+            lowest, highest = min(map(min, by_layer)), max(map(max, by_layer))
+            difference = max(by_port) - min(by_port)
+            tests.check(-PART <= LOWEST <= lowest and highest <= HIGHEST <= PART,
+                        f'{show_report(report)}: powers from {lowest:,} to {highest:,}')
+            tests.check(v * LOWEST <= min(by_port) and max(by_port) <= v * HIGHEST,
+                        f'{show_report(report)}: powers of ports from {min(by_port):,} to {max(by_port):,}')
+            tests.check(difference <= v * APART, f'{show_report(report)}: powers of ports differ by {difference:,}')
+            low.meet(lowest, report)
+            high.meet(highest, report)
+            apart.meet(difference, report)
+    low.figure(tests, 'lowest power of a weight, less 16384 squared', -17_126, LOWEST)
+    high.figure(tests, 'highest power of a weight, less 16384 squared', 15_121, HIGHEST)
+    apart.figure(tests, "largest difference between two ports' powers", 142_504, apart.report.v * APART)
+    tests.check((apart.report.N1, apart.report.N2, apart.report.v) == (4, 3, 8), 'known is (4,3), v=8')
+
+
+# ---- Masks -----------------------------------------------------------------------------------------------------------
+
+def beam_masks(tests, function):
     bits_read = 0
     for s, mode, v in groups():
-        tests.begin(f'beam masks of {name_of(s)} mode {mode} v={v}')
-        length = mask_bytes(s)
-        all_but = [ones_but(s, [k]) for k in range(8 * length)]
+        tests.begin(f'{function.name}: beam masks of {name_of(s)} mode {mode} v={v}')
+        size, length = mask_bytes(s), needed(function, s, v)
+        all_but = [ones_but(s, [k]) for k in range(8 * size)]
         for n, report in enumerate(reports_in_range(s, mode, v)):
-            bits = precoder(report)[1]
-            tests.add(report, 255, mask_of(bits, length), v * s.P, n % 256, 0)
+            bits = precoder(report).bits
+            tests.add(function, report, 255, mask_of(bits, size), length, n % 256, 0)
             for k in bits:
-                tests.add(report, 255, all_but[k], v * s.P, (n + k) % 256, 10)
+                tests.add(function, report, 255, all_but[k], length, (n + k) % 256, 10)
             bits_read += len(bits)
-    print(f'{bits_read} mask bits read, each barred once')
+    print(f'{function.name}: {bits_read} mask bits read, each barred once')
 
 
-def rank_masks(tests):
+def rank_masks(tests, function):
     for s in SETTINGS.values():
         for v in ranks_of(s):
-            tests.begin(f'rank masks of {name_of(s)} v={v}')
+            tests.begin(f'{function.name}: rank masks of {name_of(s)} v={v}')
             for mode in MODES:
                 report = corner_reports(s, mode, v)[1]
                 for ranks in range(256):
-                    tests.add(report, ranks, ones(s), v * s.P, ranks, 0 if ranks >> (v - 1) & 1 else 5)
+                    number = 0 if ranks >> (v - 1) & 1 else 5
+                    tests.add(function, report, ranks, ones(s), needed(function, s, v), ranks, number)
 
 
-# ---- Both sides of every bound -----------------------------------------------------------------------------------------
+# ---- Both sides of every bound ---------------------------------------------------------------------------------------
 
 def near(count):
-    """Numbers on both sides of a bound, and numbers that 8, 16, 24 or 31 bits, or a doubling, cut down to legal ones."""
+    """Numbers on both sides of a bound, and numbers that some bits, up to 31, or a doubling cut down to legal ones."""
     last = count - 1
     numbers = {0, last, count, count + 1, 2 * count - 1, 2 * count, 2 ** 32 - 1, 2 ** 32 - count, 2 ** 31 - 1}
     for bits in (5, 6, 8, 15, 16, 24, 30, 31):
@@ -610,19 +850,19 @@ def near(count):
     return sorted(numbers)
 
 
-def not_settings(tests):
+def not_settings(tests, function):
     def refused(N1, N2, lengths, fill):
         for mode, v, length in itertools.product(MODES, (1, 4), lengths):
-            tests.add(Report(N1, N2, mode, v, 0, 0, 0, 0), 255, b'\xff' * length, 256, fill, 1)
+            tests.add(function, Report(N1, N2, mode, v, 0, 0, 0, 0), 255, b'\xff' * length, 256, fill, 1)
 
-    tests.begin('pairs up to 33 x 33 that are not settings')
+    tests.begin(f'{function.name}: pairs up to 33 x 33 that are not settings')
     pairs = [pair for pair in itertools.product(range(34), repeat=2) if pair not in SETTINGS]
     tests.check(len(pairs) == 34 * 34 - 14, f'{len(pairs)} pairs')
     for N1, N2 in pairs:
         # The second length is what the mask of such a setting would need, with O1 = 4 and O2 = 4 or 1.
         refused(N1, N2, {1, 2 * N1 * N2 if N2 > 1 else (N1 + 1) // 2}, (N1 + 34 * N2) % 256)
 
-    tests.begin('pairs that become settings, or their ports, when cut down')
+    tests.begin(f'{function.name}: pairs that become settings, or their ports, when cut down')
     for s in SETTINGS.values():
         for bits in (8, 16, 24, 31):
             for N1, N2 in [(s.N1 + 2 ** bits, s.N2), (s.N1, s.N2 + 2 ** bits), (s.N1 + 2 ** bits, s.N2 + 2 ** bits)]:
@@ -630,7 +870,7 @@ def not_settings(tests):
         for N1, N2 in [(2 ** 32 - s.N1, 2 ** 32 - s.N2), (2 ** 32 - s.N1, s.N2), (s.N1, 2 ** 32 - s.N2)]:
             refused(N1, N2, {mask_bytes(s)}, s.P)
 
-    tests.begin('pairs of 32-bit extremes')
+    tests.begin(f'{function.name}: pairs of 32-bit extremes')
     extremes = [0, 1, 2, 4, 255, 256, 258, 65535, 65536, 65537, 2 ** 30, 2 ** 31 - 1, 2 ** 31, 2 ** 31 + 1,
                 2 ** 32 - 2, 2 ** 32 - 1]
     for N1, N2 in itertools.product(extremes, repeat=2):
@@ -638,67 +878,70 @@ def not_settings(tests):
             refused(N1, N2, {0, 1, 2, 8, 32}, (N1 + N2) % 256)
 
 
-def modes(tests):
+def modes(tests, function):
     for s in SETTINGS.values():
-        tests.begin(f'modes of {name_of(s)}')
+        tests.begin(f'{function.name}: modes of {name_of(s)}')
         for v in ranks_of(s):
             for mode in sorted({1, *near(3)}):
                 report = corner_reports(s, 1, v)[0]._replace(mode=mode)
-                tests.add(report, 255, ones(s), v * s.P, mode % 256, 0 if mode in MODES else 2)
+                number = 0 if mode in MODES else 2
+                tests.add(function, report, 255, ones(s), needed(function, s, v), mode % 256, number)
 
 
-def mask_lengths(tests):
+def mask_lengths(tests, function):
     for s in SETTINGS.values():
-        tests.begin(f'beam mask lengths of {name_of(s)}')
-        needed = mask_bytes(s)
-        lengths = {0, 1, needed - 1, needed, needed + 1, 2 * needed, 8 * needed, 256 + needed,
-                   31, 32, 33, 64, 255, 256, 65535}
+        tests.begin(f'{function.name}: beam mask lengths of {name_of(s)}')
+        size = mask_bytes(s)
+        lengths = {0, 1, size - 1, size, size + 1, 2 * size, 8 * size, 256 + size, 31, 32, 33, 64, 255, 256, 65535}
         for mode, v in itertools.product(MODES, ranks_of(s)):
             for length in sorted(lengths if v == 1 else lengths - {65535}):
                 report = corner_reports(s, mode, v)[1]
-                tests.add(report, 255, b'\xff' * length, v * s.P, length % 256, 0 if length == needed else 3)
+                number = 0 if length == size else 3
+                tests.add(function, report, 255, b'\xff' * length, needed(function, s, v), length % 256, number)
 
 
-def rank_bounds(tests):
+def rank_bounds(tests, function):
     for s in SETTINGS.values():
-        tests.begin(f'ranks of {name_of(s)}')
+        tests.begin(f'{function.name}: ranks of {name_of(s)}')
         numbers = {*near(9), *range(12), s.P - 1, s.P, s.P + 1, 33, 40, 65, 257, 264, 256 + s.P, 65536 + s.P}
         for mode, v in itertools.product(MODES, sorted(numbers)):
             legal = v in ranks_of(s)
             for ranks in (0, 255):
-                report = Report(s.N1, s.N2, mode, v, 0, 0, 0, 0)
-                tests.add(report, ranks, ones(s), 8 * s.P, v % 256, 4 if not legal else 0 if ranks else 5)
+                report, number = Report(s.N1, s.N2, mode, v, 0, 0, 0, 0), 4 if not legal else 0 if ranks else 5
+                tests.add(function, report, ranks, ones(s), needed(function, s, 8), v % 256, number)
 
 
-def index_bounds(tests):
+def index_bounds(tests, function):
     for s in SETTINGS.values():
         for place, name in enumerate(('i11', 'i12', 'i13', 'i2')):
-            tests.begin(f'{name} of {name_of(s)}')
+            tests.begin(f'{function.name}: {name} of {name_of(s)}')
             for mode, v in itertools.product(MODES, ranks_of(s)):
                 count = values(s, mode, v)[place]
-                for report, number in itertools.product(corner_reports(s, mode, v), near(count)):
-                    report = report._replace(**{name: number})
-                    tests.add(report, 255, ones(s), v * s.P, number % 256, 0 if number < count else 6 + place)
+                for report, index in itertools.product(corner_reports(s, mode, v), near(count)):
+                    report, number = report._replace(**{name: index}), 0 if index < count else 6 + place
+                    tests.add(function, report, 255, ones(s), needed(function, s, v), index % 256, number)
 
 
-def buffer_lengths(tests):
+def buffer_lengths(tests, function):
     for s in SETTINGS.values():
-        tests.begin(f'buffer lengths of {name_of(s)}')
+        tests.begin(f'{function.name}: buffer lengths of {name_of(s)}')
         for mode, v in itertools.product(MODES, ranks_of(s)):
-            needed = v * s.P
-            lengths = {0, 1, s.P - 1, s.P, needed - s.P, needed - 1, needed, needed + 1, 2 * needed, 255, 256, 257,
-                       255 + needed, 256 + needed, 511 + needed}
+            enough = needed(function, s, v)
+            lengths = {0, 1, s.P - 1, s.P, v * s.P - 1, v * s.P, v * s.P + 1, enough - s.P, enough - 2, enough - 1,
+                       enough, enough + 1, enough + 2, 2 * enough, 255, 256, 257, 255 + enough, 256 + enough,
+                       511 + enough}
             for length in sorted(lengths | ({65535} if v == 1 else set())):
                 for report in corner_reports(s, mode, v):
-                    tests.add(report, 255, ones(s), length, (length + v) % 256, 0 if length >= needed else 11)
+                    number = 0 if length >= enough else 11
+                    tests.add(function, report, 255, ones(s), length, (length + v) % 256, number)
 
 
-# ---- The order of refusals ---------------------------------------------------------------------------------------------
+# ---- The order of refusals -------------------------------------------------------------------------------------------
 
-def with_faults(report, faults, variant):
+def with_faults(function, report, faults, variant):
     """A request with these faults and no others, from a report in range; the variant picks the form of each fault."""
     s = SETTINGS[report.N1, report.N2]
-    numbers, ranks, mask, length = report._asdict(), 255, ones(s), report.v * s.P
+    numbers, ranks, mask, length = report._asdict(), 255, ones(s), needed(function, s, report.v)
 
     def form(number, *forms):
         return forms[variant // number % len(forms)]
@@ -720,7 +963,7 @@ def with_faults(report, faults, variant):
             first = 64 if faults & {2, 4} else count
             numbers[name] = form(number, first, 2 ** 32 - 1, 2 ** 31 + legal, 256 + legal)
     if 10 in faults:
-        mask = form(10, bytes(len(mask)), ones_but(s, precoder(report)[1][-1:]))
+        mask = form(10, bytes(len(mask)), ones_but(s, precoder(report).bits[-1:]))
     if 3 in faults:
         mask = form(3, mask[:-1], mask + b'\xff', b'', mask + mask)
     if 11 in faults:
@@ -728,30 +971,31 @@ def with_faults(report, faults, variant):
     return Report(**numbers), ranks, mask, length
 
 
-def orders(tests):
+def orders(tests, function):
     variants = itertools.count()
 
     def add(report, faults):
         variant = next(variants)
-        tests.add(*with_faults(report, faults, variant), variant % 256, min(faults))
+        tests.add(function, *with_faults(function, report, faults, variant), variant % 256, min(faults))
 
     pairs = list(itertools.combinations(range(1, 12), 2))
-    named = {pair: tests.begin('faults {} and {} together'.format(*pair)) for pair in pairs}
+    named = {pair: tests.begin(f'{function.name}: faults {pair[0]} and {pair[1]} together') for pair in pairs}
     for s, mode, v in groups():
         for report, pair in itertools.product(corner_reports(s, mode, v), pairs):
             tests.test = named[pair]
             add(report, set(pair))
     for s in SETTINGS.values():
-        tests.begin(f'all sets of two or more faults of {name_of(s)}')
-        reports = itertools.cycle([report for mode in MODES for v in ranks_of(s) for report in corner_reports(s, mode, v)])
+        tests.begin(f'{function.name}: all sets of two or more faults of {name_of(s)}')
+        reports = itertools.cycle([report for mode, v in itertools.product(MODES, ranks_of(s))
+                                   for report in corner_reports(s, mode, v)])
         for some in range(2, 12):
             for faults in itertools.combinations(range(1, 12), some):
                 add(next(reports), set(faults))
 
 
-# ---- Random requests ---------------------------------------------------------------------------------------------------
+# ---- Random requests -------------------------------------------------------------------------------------------------
 
-RANDOM_REQUESTS, SEED, FEWEST = 240_000, 38_214, 1_000
+RANDOM_REQUESTS, FEWEST = {PHASES: 240_000, WEIGHTS: 120_000}, 1_000
 
 
 def draw_number(draw, count):
@@ -784,12 +1028,12 @@ def draw_mask(draw, report, s):
         mask = draw.getrandbits(bits) | draw.getrandbits(bits) | draw.getrandbits(bits)
     else:
         mask = draw.getrandbits(bits) & draw.getrandbits(bits) if x < 0.98 else 0
-        if x < 0.94 and not refusal(report, 255, ones(s), 1 << 16):
-            mask |= sum(1 << k for k in precoder(report)[1]) & every
+        if x < 0.94 and not refusal(PHASES, report, 255, ones(s), 1 << 16):
+            mask |= sum(1 << k for k in precoder(report).bits) & every
     return mask.to_bytes(length, 'little')
 
 
-def draw_request(draw):
+def draw_request(draw, function):
     s = draw.choice(list(SETTINGS.values()))
     N1, N2, mode = s.N1, s.N2, 1 + int(draw.random() * 2)
     if draw.random() < 0.04:
@@ -806,30 +1050,30 @@ def draw_request(draw):
     ranks = draw.getrandbits(8)
     if draw.random() < 0.94:
         ranks |= 1 << (legal_v - 1)
-    length, x = legal_v * s.P, draw.random()
+    length, x = needed(function, s, legal_v), draw.random()
     if x < 0.30:
         length += int(draw.random() * 40)
     elif x < 0.42:
         length -= 1 + int(draw.random() * min(4, length))
     elif x < 0.50:
-        length = int(draw.random() * 600)
+        length = int(draw.random() * 600 * function.parts)
     return report, ranks, draw_mask(draw, report, s), length
 
 
-def random_requests(tests):
-    draw = random.Random(SEED)
-    named = [tests.begin(f'random requests to be refused with {number}' if number else 'random requests to be accepted')
-             for number in range(12)]
+def random_requests(tests, function):
+    draw = random.Random(SEED + function.code)
+    named = [tests.begin(f'{function.name}: random requests to be '
+                         + (f'refused with {number}' if number else 'accepted')) for number in range(12)]
     drawn = collections.Counter()
-    for _ in range(RANDOM_REQUESTS):
-        request = draw_request(draw)
-        number = refusal(*request)
+    for _ in range(RANDOM_REQUESTS[function]):
+        request = draw_request(draw, function)
+        number = refusal(function, *request)
         drawn[number] += 1
-        tests.add(*request, draw.getrandbits(8), number, named[number])
+        tests.add(function, *request, draw.getrandbits(8), number, named[number])
     for number, test in enumerate(named):
         tests.test = test
         tests.check(drawn[number] >= FEWEST, f'only {drawn[number]} drawn')
-    print(f'{RANDOM_REQUESTS} random requests, by refusal (0 for none) '
+    print(f'{function.name}: {RANDOM_REQUESTS[function]} random requests, by refusal (0 for none) '
           + ', '.join(f'{number}: {drawn[number]}' for number in range(12)))
 
 
@@ -838,10 +1082,20 @@ def main(command):
         print('usage: precoder.py COMMAND..', file=sys.stderr)
         return 2
     tests = Tests()
-    for part in (worked_cases, every_report, beam_masks, rank_masks, not_settings, modes, mask_lengths, rank_bounds,
-                 index_bounds, buffer_lengths, orders, random_requests):
+    for part in (worked_cases, weights_of_phases, count_rule):
         part(tests)
+    for function in FUNCTIONS:
+        every_report(tests, function)
     tests.run(command)
+    for part in (phases_reached, exact_orthogonality, cross_sums, powers):
+        part(tests)
+    tests.clear()
+    for function in FUNCTIONS:
+        for part in (beam_masks, rank_masks, not_settings, modes, mask_lengths, rank_bounds, index_bounds,
+                     buffer_lengths, orders, random_requests):
+            part(tests, function)
+        tests.run(command)
+        tests.clear()
     return tests.report()
 
 
