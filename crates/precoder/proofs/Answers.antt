@@ -58,7 +58,8 @@ module _ (r : Report) (mask : List ℕ) (ranks room : ℕ) {c : Choice} (judge :
     judged-choice = judge ∙ ap (judged r) none
 
     pub accepted-answers : {A : Type 0} (answer lent : List A) (n : ℕ) {given : Record} {left : List A}
-        → given ≡ recordOf r 0 → length answer ≡ n → left ≡ answer ++ drop n lent → Answers r mask ranks room answer lent given left
+        → given ≡ recordOf r 0 → length answer ≡ n → left ≡ answer ++ drop n lent
+        → Answers r mask ranks room answer lent given left
     accepted-answers answer lent n e l f = record {
       record-is = e ∙ ap (recordOf r) (sym none);
       buffer-is = f ∙ sym (buffer-accepted (refusal r mask ranks room) answer lent n none l);

@@ -65,7 +65,8 @@ module _ (c : Setting) (whole : Divides c) (l m j1 j2 k1 k2 : ℕ) (a : Apart c 
       rw (differences-column co co′ _ _ (same-length c whole l m j1 j2 k1 k2))
       (coarse-phases (coarse-product h (rw (differences-beams c whole l m j1 j2 k1 k2) (coarse-phases (coarse-product
       (coarse-phases (coarse-steps (c .n1) _ (gap-multiple (c .n1) (c .o1) (whole .rows) twelfth j1 k1 (p .rows))))
-      (coarse-phases (coarse-steps (c .n2) _ (gap-multiple (c .n2) (c .o2) (whole .columns) twelfth j2 k2 (p .columns)))))))))
+      (coarse-phases
+      (coarse-steps (c .n2) _ (gap-multiple (c .n2) (c .o2) (whole .columns) twelfth j2 k2 (p .columns)))))))))
 
   pub beams-cancel : Common c 3 ⊎ (Common c twelfth × Coarse (differences co co′)) → Cancels between
   beams-cancel s =

@@ -31,7 +31,8 @@ add-phases x y z w e e′ = omega arith
 difference-add : (x a y b : ℕ) → difference (x + a) (y + b) ≡ phase (difference x y + difference a b)
 difference-add x a y b =
     difference-by (x + a) (y + b) (difference x y + difference a b)
-    (sym (add-phases (x + difference x y) y (a + difference a b) b (difference-back x y) (difference-back a b)) ∙ ap phase (omega arith))
+    (sym (add-phases (x + difference x y) y (a + difference a b) b (difference-back x y) (difference-back a b))
+    ∙ ap phase (omega arith))
 
 -- ---- lists
 
@@ -47,14 +48,17 @@ unfolding differences
 differences-append [] [] us vs e = refl
 differences-append [] (y ∷ ys) us vs e = absurd (omega arith)
 differences-append (x ∷ xs) [] us vs e = absurd (omega arith)
-differences-append (x ∷ xs) (y ∷ ys) us vs e = ap {B = List ℕ} (λ l. difference x y ∷ l) (differences-append xs ys us vs (omega arith))
+differences-append (x ∷ xs) (y ∷ ys) us vs e =
+    ap {B = List ℕ} (λ l. difference x y ∷ l) (differences-append xs ys us vs (omega arith))
 
 differences-shift : (x y : ℕ) (us vs : List ℕ)
-    → differences (map (λ a. x + a) us) (map (λ b. y + b) vs) ≡ map phase (map (λ d. difference x y + d) (differences us vs))
+    → differences (map (λ a. x + a) us) (map (λ b. y + b) vs)
+    ≡ map phase (map (λ d. difference x y + d) (differences us vs))
 unfolding differences
 differences-shift x y [] vs = refl
 differences-shift x y (a ∷ us) [] = refl
-differences-shift x y (a ∷ us) (b ∷ vs) = ap₂ {C = List ℕ} (λ z l. z ∷ l) (difference-add x a y b) (differences-shift x y us vs)
+differences-shift x y (a ∷ us) (b ∷ vs) =
+    ap₂ {C = List ℕ} (λ z l. z ∷ l) (difference-add x a y b) (differences-shift x y us vs)
 
 differences-nil : (xs : List ℕ) → differences xs [] ≡ []
 unfolding differences
@@ -67,9 +71,11 @@ unfolding differences product
 differences-product [] ys us vs e = refl
 differences-product (x ∷ xs) [] us vs e = differences-nil (product (x ∷ xs) us)
 differences-product (x ∷ xs) (y ∷ ys) us vs e =
-    differences-append (map (λ a. x + a) us) (map (λ b. y + b) vs) (product xs us) (product ys vs) (length-map us _ ∙ e ∙ sym (length-map vs _))
+    differences-append (map (λ a. x + a) us) (map (λ b. y + b) vs) (product xs us) (product ys vs)
+    (length-map us _ ∙ e ∙ sym (length-map vs _))
     ∙ ap₂ _++_ (differences-shift x y us vs) (differences-product xs ys us vs e)
-    ∙ sym (map-append phase (map (λ d. difference x y + d) (differences us vs)) (product (differences xs ys) (differences us vs)))
+    ∙ sym
+    (map-append phase (map (λ d. difference x y + d) (differences us vs)) (product (differences xs ys) (differences us vs)))
 
 pub differences-column : (co co′ b b′ : List ℕ) → length b ≡ length b′
     → differences (column co b) (column co′ b′) ≡ map phase (product (differences co co′) (differences b b′))
@@ -90,14 +96,16 @@ unfolding differences steps
 differences-steps zero s s′ g e = refl
 differences-steps (suc n) s s′ g e =
     differences-append (steps n s) (steps n s′) (n * s ∷ []) (n * s′ ∷ []) (length-steps n s ∙ sym (length-steps n s′))
-    ∙ ap₂ _++_ (differences-steps n s s′ g e) (ap {B = List ℕ} (λ z. z ∷ []) (difference-by (n * s) (n * s′) (n * g) further))
+    ∙ ap₂ _++_ (differences-steps n s s′ g e)
+    (ap {B = List ℕ} (λ z. z ∷ []) (difference-by (n * s) (n * s′) (n * g) further))
     ∙ sym (map-append phase (steps n g) (n * g ∷ []))
   where
     further : phase (n * s′) ≡ phase (n * s + n * g)
     further = sym (mul-phase n s′) ∙ ap (λ (x : ℕ). phase (n * x)) e ∙ mul-phase n (s + g) ∙ ap phase (omega arith)
 
 pub differences-grid : (n1 s s′ g n2 u u′ h : ℕ) → phase s′ ≡ phase (s + g) → phase u′ ≡ phase (u + h)
-    → differences (grid n1 s n2 u) (grid n1 s′ n2 u′) ≡ map phase (product (map phase (steps n1 g)) (map phase (steps n2 h)))
+    → differences (grid n1 s n2 u) (grid n1 s′ n2 u′)
+    ≡ map phase (product (map phase (steps n1 g)) (map phase (steps n2 h)))
 unfolding grid
 differences-grid n1 s s′ g n2 u u′ h e e′ =
     differences-product (steps n1 s) (steps n1 s′) (steps n2 u) (steps n2 u′) (length-steps n2 u ∙ sym (length-steps n2 u′))

@@ -38,7 +38,8 @@ product-entry (x ∷ xs) ys (suc i) j h k =
 product-entry-at : (xs ys : List ℕ) (w i j : ℕ) → length ys ≡ w → i < length xs → j < w
     → getD (product xs ys) (i * w + j) 0 ≡ getD xs i 0 + getD ys j 0
 product-entry-at xs ys w i j e h k =
-    subst (λ (n : ℕ). getD (product xs ys) (i * n + j) 0 ≡ getD xs i 0 + getD ys j 0) e (product-entry xs ys i j h (omega arith))
+    subst (λ (n : ℕ). getD (product xs ys) (i * n + j) 0 ≡ getD xs i 0 + getD ys j 0) e
+    (product-entry xs ys i j h (omega arith))
 
 pub grid-entry : (n1 s n2 u a b : ℕ) → a < n1 → b < n2 → getD (grid n1 s n2 u) (a * n2 + b) 0 ≡ a * s + b * u
 unfolding grid
@@ -51,7 +52,8 @@ pub column-entry : (co b : List ℕ) (q i : ℕ) → q < length co → i < lengt
     → getD (column co b) (q * length b + i) 0 ≡ phase (getD co q 0 + getD b i 0)
 unfolding column
 column-entry co b q i h k =
-    map-at phase (product co b) (q * length b + i) 0 0 (subst (λ (n : ℕ). q * length b + i < n) (sym (length-product co b)) (digits-lt h k))
+    map-at phase (product co b) (q * length b + i) 0 0
+    (subst (λ (n : ℕ). q * length b + i < n) (sym (length-product co b)) (digits-lt h k))
     ∙ ap phase (product-entry co b q i h k)
 
 -- ---- beams
@@ -88,5 +90,6 @@ module _ (c : Setting) (whole : Divides c) (l m a b : ℕ) (ha : a < c .n1) (hb 
       → getD (column co (beam c l m)) (q * (c .n1 * c .n2) + (a * c .n2 + b)) 0 ≡ phase (getD co q 0 + at)
   entry co q h =
       ap (λ (n : ℕ). getD (column co (beam c l m)) (q * n + (a * c .n2 + b)) 0) (sym (length-beam c l m))
-      ∙ column-entry co (beam c l m) q (a * c .n2 + b) h (subst (λ (n : ℕ). a * c .n2 + b < n) (sym (length-beam c l m)) (digits-lt ha hb))
+      ∙ column-entry co (beam c l m) q (a * c .n2 + b) h
+      (subst (λ (n : ℕ). a * c .n2 + b < n) (sym (length-beam c l m)) (digits-lt ha hb))
       ∙ ap (λ (x : ℕ). phase (getD co q 0 + x)) beam-entry

@@ -6,7 +6,8 @@ use native.Mathlib.Nat.{zero-mul, suc-mul}
 use native.Mathlib.Omega.{arith}
 use Rattle.turn.specs.Phase.{phase}
 use Rattle.turn.specs.Column.{steps, product}
-use Rattle.turn.proofs.Totals.{total, total-cong, total-append, total-map, total-product, Steady, steady-same, steady-shift, steady-total}
+use Rattle.turn.proofs.Totals.{total, total-cong, total-append, total-map, total-product, Steady, steady-same}
+use Rattle.turn.proofs.Totals.{steady-shift, steady-total}
 
 -- A turn by g only permutes the phases xs: no function of a phase has another total after it. (Of the function that
 -- is 1 at e and else 0: as many are at e + g as at e.)
@@ -43,7 +44,8 @@ invariant-nil = record { turned = λ f s. refl }
 
 pub invariant-append : {g : ℕ} {xs ys : List ℕ} → Invariant g xs → Invariant g ys → Invariant g (xs ++ ys)
 invariant-append {g} {xs} {ys} p q = record {
-  turned = λ f s. total-append (λ x. f (x + g)) xs ys ∙ ap₂ _+_ (p .turned f s) (q .turned f s) ∙ sym (total-append f xs ys);
+  turned = λ f s.
+      total-append (λ x. f (x + g)) xs ys ∙ ap₂ _+_ (p .turned f s) (q .turned f s) ∙ sym (total-append f xs ys);
 }
 
 pub invariant-shift : {g : ℕ} {ys : List ℕ} (x : ℕ) → Invariant g ys → Invariant g (map (λ y. x + y) ys)

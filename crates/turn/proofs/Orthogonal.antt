@@ -41,7 +41,8 @@ module _ {g : ℕ} (co co′ b b′ : List ℕ) (e : length b ≡ length b′) w
 
 -- columns of two beams that lie whole multiples of the oversampling apart, whatever the co-phases
 pub beams-orthogonal : (c : Setting) → Divides c → (l m j1 j2 k1 k2 : ℕ) → Apart c j1 j2 k1 k2 → (co co′ : List ℕ)
-    → Orthogonal (column co (beam c (l + j1 * c .o1) (m + j2 * c .o2))) (column co′ (beam c (l + k1 * c .o1) (m + k2 * c .o2)))
+    → Orthogonal (column co (beam c (l + j1 * c .o1) (m + j2 * c .o2)))
+    (column co′ (beam c (l + k1 * c .o1) (m + k2 * c .o2)))
 beams-orthogonal c whole l m j1 j2 k1 k2 a co co′ =
     let t = beams-turned c whole l m j1 j2 k1 k2 a in
     orthogonal-turned _ _ (t .some) (turned-by-beams co co′ _ _ (same-length c whole l m j1 j2 k1 k2) (t .invariant))

@@ -3,7 +3,9 @@
 use mathlib.Core.Path.{_≡_, sym, ap, _∙_, subst}
 use mathlib.Core.Logic.{_≢_, inl, inr}
 use Prim.Native.Nat.{ℕ, zero, suc, _+_, _-_, _*_, _/_, _%_, _<_}
-use native.Mathlib.Nat.{mod-mod, mod-lt, div-add-mod, mul-mod-left, mod-add-mod, add-mul-mod-self-left, mul-lt-mul-of-pos-right, eq-zero-or-pos, div-eq-of-eq-mul-right, dvd-of-mod-eq-zero, dvd-mul-left-of-dvd, mod-eq-zero-of-dvd}
+use native.Mathlib.Nat.{mod-mod, mod-lt, div-add-mod, mul-mod-left, mod-add-mod, add-mul-mod-self-left}
+use native.Mathlib.Nat.{mul-lt-mul-of-pos-right, eq-zero-or-pos, div-eq-of-eq-mul-right, dvd-of-mod-eq-zero}
+use native.Mathlib.Nat.{dvd-mul-left-of-dvd, mod-eq-zero-of-dvd}
 use native.Mathlib.Omega.{arith}
 use lib.Arith.{digits-mod}
 use Rattle.turn.specs.Phase.{turn, phase}
@@ -75,7 +77,8 @@ module _ (n o : ℕ) (whole : n * o * (turn / (n * o)) ≡ turn) where
     where
       go : (u q r t : ℕ) → n * o * u ≡ turn → n * q + r ≡ j → t + r ≡ n
           → (l + j * o) * u + (k + t) * (o * u) ≡ (l + k * o) * u + turn * (q + 1)
-      go u q r t w e e′ = omega (arith, ap (λ (x : ℕ). x * (o * u)) e, ap (λ (x : ℕ). x * (o * u)) e′, ap (λ (x : ℕ). q * x) w)
+      go u q r t w e e′ =
+          omega (arith, ap (λ (x : ℕ). x * (o * u)) e, ap (λ (x : ℕ). x * (o * u)) e′, ap (λ (x : ℕ). q * x) w)
 
   -- n gaps come round
   pub gap-round : (j k : ℕ) → phase (n * gap j k) ≡ 0
@@ -103,10 +106,13 @@ module _ (n o : ℕ) (whole : n * o * (turn / (n * o)) ≡ turn) where
       no-steps : (k + (n - j % n)) % n ≡ 0
       no-steps =
           factor-zero ((k + (n - j % n)) % n) (o * unit) some
-          (sym (mod-factor (k + (n - j % n)) n (o * unit) n-pos some) ∙ ap (λ (x : ℕ). (k + (n - j % n)) * (o * unit) % x) round ∙ e)
+          (sym (mod-factor (k + (n - j % n)) n (o * unit) n-pos some)
+          ∙ ap (λ (x : ℕ). (k + (n - j % n)) * (o * unit) % x) round
+          ∙ e)
 
   -- what divides the nth part of a turn divides a gap
   pub gap-multiple : (m j k : ℕ) → turn / n % m ≡ 0 → gap j k % m ≡ 0
   unfolding gap
   gap-multiple m j k h =
-      mul-multiple (k + (n - j % n)) (o * unit) m (subst (λ (x : ℕ). x % m ≡ 0) (div-eq-of-eq-mul-right n-pos (omega arith)) h)
+      mul-multiple (k + (n - j % n)) (o * unit) m
+      (subst (λ (x : ℕ). x % m ≡ 0) (div-eq-of-eq-mul-right n-pos (omega arith)) h)

@@ -57,14 +57,18 @@ zero-by-half {xs} p = record {
 }
   where
     none : (e : ℕ) → e < half → d (map phase xs) e ≡ pos 0
-    none e h = ap (λ (n : ℕ). pos (count (map phase xs) e) -ℤ pos n) (count-turned p e (omega arith)) ∙ +ℤ-invr (pos (count (map phase xs) e))
+    none e h =
+        ap (λ (n : ℕ). pos (count (map phase xs) e) -ℤ pos n) (count-turned p e (omega arith))
+        ∙ +ℤ-invr (pos (count (map phase xs) e))
 
 pub zero-by-third : {xs : List ℕ} → Invariant third xs → ExactZero (map phase xs)
 unfolding d
 zero-by-third {xs} p = record {
-  same = λ i h. sub (on i (third + i) (omega arith) (omega arith)) (on (i + half) (third + i + half) (omega arith) (omega arith));
+  same = λ i h.
+      sub (on i (third + i) (omega arith) (omega arith)) (on (i + half) (third + i + half) (omega arith) (omega arith));
   opposite = λ i h.
-      sub (on (sixth + i) (i + half) (omega arith) (omega arith) ∙ on (i + half) (third + i + half) (omega arith) (omega arith))
+      sub
+      (on (sixth + i) (i + half) (omega arith) (omega arith) ∙ on (i + half) (third + i + half) (omega arith) (omega arith))
       (sym (on (third + i) (sixth + i + half) (omega arith) (omega arith)))
       ∙ sym (neg-sub (pos (count (map phase xs) (third + i))) (pos (count (map phase xs) (third + i + half))));
 }

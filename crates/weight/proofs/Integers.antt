@@ -5,7 +5,8 @@ use Prim.Native.Nat.{ℕ, zero, suc, _+_, _-_, _*_, _≤_, _<_}
 use native.Mathlib.Nat.{le-refl, mul-zero}
 use native.Mathlib.Omega.{arith}
 use lib.Dec.{T, eqb, eqb→eq, ltb, ltb→lt}
-use lib.IntN.{ℤ, pos, negsuc, negℤ, natAbs, subℕ, _+ℤ_, _-ℤ_, _*ℤ_, sucℤ-*ℤ, zero-*ℤ, *ℤ-comm, +ℤ-assoc, +ℤ-comm, +ℤ-idl, +ℤ-idr, -ℤ-+ℤ-cancel, negℤ-+ℤ, negℤ-negℤ}
+use lib.IntN.{ℤ, pos, negsuc, negℤ, natAbs, subℕ, _+ℤ_, _-ℤ_, _*ℤ_, sucℤ-*ℤ, zero-*ℤ, *ℤ-comm, +ℤ-assoc, +ℤ-comm, +ℤ-idl}
+use lib.IntN.{+ℤ-idr, -ℤ-+ℤ-cancel, negℤ-+ℤ, negℤ-negℤ}
 
 -- ---- equality, as a test
 
@@ -94,7 +95,8 @@ parts (pos n) = sym (+ℤ-idr (pos n))
 parts (negsuc n) = sym (+ℤ-idl (negsuc n))
 
 pub add-parts : (a b c d : ℕ) → (pos a -ℤ pos b) +ℤ (pos c -ℤ pos d) ≡ pos (a + c) -ℤ pos (b + d)
-add-parts a b c d = interchange (pos a) (negℤ (pos b)) (pos c) (negℤ (pos d)) ∙ ap (λ z. pos (a + c) +ℤ z) (sym (negℤ-+ℤ (pos b) (pos d)))
+add-parts a b c d =
+    interchange (pos a) (negℤ (pos b)) (pos c) (negℤ (pos d)) ∙ ap (λ z. pos (a + c) +ℤ z) (sym (negℤ-+ℤ (pos b) (pos d)))
 
 no-difference : (a b : ℕ) → pos a -ℤ pos b ≡ pos 0 → a ≡ b
 no-difference a b e = same (sym (-ℤ-+ℤ-cancel (pos a) (pos b)) ∙ ap (λ z. z +ℤ pos b) e ∙ +ℤ-idl (pos b))

@@ -35,7 +35,8 @@ walk-at zero f vs ws t k h = absurd (not-suc-le-zero h)
 walk-at (suc n) f [] ws t k h = absurd t
 walk-at (suc n) f (v ∷ vs) [] t k h = absurd t
 walk-at (suc n) f (v ∷ vs) (w ∷ ws) t zero h = and-left (f v w) (walk n f vs ws) t
-walk-at (suc n) f (v ∷ vs) (w ∷ ws) t (suc k) h = walk-at n f vs ws (and-right (f v w) (walk n f vs ws) t) k (le-of-suc-le-suc h)
+walk-at (suc n) f (v ∷ vs) (w ∷ ws) t (suc k) h =
+    walk-at n f vs ws (and-right (f v w) (walk n f vs ws) t) k (le-of-suc-le-suc h)
 
 near? : Weight → Weight → Weight → Bool
 near? w a g = leb (off (re a g) (w .x)) productOff && leb (off (im a g) (w .y)) productOff

@@ -29,7 +29,10 @@ sum-parts f (e ∷ es) =
     ∙ add-parts (above (f e)) (below (f e)) (total (λ g. above (f g)) es) (total (λ g. below (f g)) es)
 
 sum-zero : (f : ℕ → ℤ) (es : List ℕ) → total (λ e. above (f e)) es ≡ total (λ e. below (f e)) es → sum f es ≡ pos 0
-sum-zero f es e = sum-parts f es ∙ ap (λ (n : ℕ). pos n -ℤ pos (total (λ e. below (f e)) es)) e ∙ +ℤ-invr (pos (total (λ e. below (f e)) es))
+sum-zero f es e =
+    sum-parts f es
+    ∙ ap (λ (n : ℕ). pos n -ℤ pos (total (λ e. below (f e)) es)) e
+    ∙ +ℤ-invr (pos (total (λ e. below (f e)) es))
 
 -- ---- opposites and thirds, for a function of a phase
 
@@ -37,7 +40,8 @@ module _ (f : ℕ → ℤ) (steady : (e : ℕ) → f (phase e) ≡ f e) where
   sum-opposites : ((e : ℕ) → f (e + half) ≡ negℤ (f e)) → {es : List ℕ} → Invariant half es → sum f es ≡ pos 0
   sum-opposites opposite {es} p =
       sum-zero f es
-      (sym (p .turned (λ e. above (f e)) (λ e. ap above (steady e))) ∙ total-cong (λ e. ap above (opposite e) ∙ above-neg (f e)) es)
+      (sym (p .turned (λ e. above (f e)) (λ e. ap above (steady e)))
+      ∙ total-cong (λ e. ap above (opposite e) ∙ above-neg (f e)) es)
 
   -- each weight with the two a third and two thirds on, added up
   three-totals : (h : ℤ → ℕ) (es : List ℕ) → total (λ e. h (f e) + h (f (e + third)) + h (f (e + (third + third)))) es
@@ -51,7 +55,8 @@ module _ (f : ℕ → ℤ) (steady : (e : ℕ) → f (phase e) ≡ f e) where
       ≡ total (λ e. below (f e) + below (f (e + third)) + below (f (e + (third + third)))) es
   unfolding total
   balanced-totals none = refl
-  balanced-totals (more {x = e} b a) = ap₂ _+_ (zero-parts (f e) (f (e + third)) (f (e + (third + third))) (b .zero-sum)) (balanced-totals a)
+  balanced-totals (more {x = e} b a) =
+      ap₂ _+_ (zero-parts (f e) (f (e + third)) (f (e + (third + third))) (b .zero-sum)) (balanced-totals a)
 
   sum-thirds : {es : List ℕ} → Invariant third es → All (Balanced f) es → sum f es ≡ pos 0
   sum-thirds {es} p a =

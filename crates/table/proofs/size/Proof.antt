@@ -44,7 +44,8 @@ module _ {z : ℤ} (f : SFits w16 z) where
   seen = toZ w64 (ofZ w64 (toZ w16 (ofZ w16 z)))
 
   seen-is : seen ≡ z
-  seen-is = ap (λ (y : ℤ). toZ w64 (ofZ w64 y)) (toZ-ofZ {w = w16} f) ∙ toZ-ofZ {w = w64} (sfits-widen {w = w16} {w′ = w64} tt f)
+  seen-is =
+      ap (λ (y : ℤ). toZ w64 (ofZ w64 y)) (toZ-ofZ {w = w16} f) ∙ toZ-ofZ {w = w64} (sfits-widen {w = w16} {w′ = w64} tt f)
 
   below-zero : ltZ seen (pos 0) ≡ true → Holds (pos 0 -ℤ seen) (natAbs z)
   below-zero t = subst (λ (y : ℤ). ltZ y (pos 0) ≡ true → Holds (pos 0 -ℤ y) (natAbs z)) (sym seen-is) (negative z f) t
