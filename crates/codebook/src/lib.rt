@@ -1,5 +1,6 @@
 // The Type I single-panel codebook: a report is judged, and what its columns are made of is given.
 ghost use mathlib.Core.Path.{_≡_};
+ghost use Rattle.codebook.specs.Settings.{_⇒_∣_, isSetting, maskBytes};
 ghost use Rattle.codebook.specs.Refusals.{refusal, judged};
 
 mod beams;
@@ -36,6 +37,16 @@ pub struct Choice {
     pub n: u32,
     pub l: [u32; 4],
     pub m: [u32; 4],
+}
+
+// How many bytes the beam mask of a setting has, 1 to 32; 0 for a pair that is no setting.
+pub fn mask_bytes(n1: u32, n2: u32) -> u32
+    ensures { λ n. ⌜ n ≡ (isSetting n1 n2 ⇒ maskBytes n1 n2 ∣ 0) ⌝ }
+{
+    if !settings::is_setting(n1, n2) {
+        return 0;
+    }
+    settings::mask_bytes_of(n1, n2)
 }
 
 // Judges a report by the refusals 1 to 11: the first that applies is given. `room` is the number of entries for which the

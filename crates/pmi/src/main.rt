@@ -1,0 +1,12 @@
+// Answers the line on standard input by text on standard output.
+use libc::STDIN_FILENO;
+use libc::STDOUT_FILENO;
+
+fn main() {
+    // one byte more than the longest line, so that a longer one is seen to be longer
+    let mut line = [0; 257];
+    let n = io::read_full(STDIN_FILENO, &mut line);
+    let mut text = [0; 1036];
+    let p = line::print(&line[..n], &mut text);
+    io::write_all(STDOUT_FILENO, &text[..p.length]);
+}
