@@ -1,0 +1,3 @@
+-- Laws that the proofs share, then theorems.
+pub mod Puts
+pub mod Rows
