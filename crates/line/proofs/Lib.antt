@@ -1,0 +1,4 @@
+-- Laws that the proofs share, then theorems.
+pub mod Leading
+pub mod Scanned
+pub mod Forms
