@@ -1,3 +1,6 @@
 -- Laws that the proofs share, then theorems.
+pub mod Leading
+pub mod Scanned
+pub mod Forms
 pub mod Puts
 pub mod Rows

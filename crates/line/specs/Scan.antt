@@ -6,7 +6,7 @@ use Prim.Native.Nat.{ℕ, zero, suc, _+_}
 use lib.Dec.{eqb}
 use lib.ListN.{length, getD}
 use Rattle.line.specs.declared.numbers.Number.{Number}
-use Rattle.line.specs.Form.{isDigit, value, isDecimal}
+use Rattle.line.specs.Form.{isDigit, value, isDecimal, ending}
 
 -- the digits at the front of a text, at most k of them
 unfoldable pub lead : ℕ → List ℕ → List ℕ
@@ -23,6 +23,6 @@ pub record Leads (bs : List ℕ) (from : ℕ) (n : Number) : Type 0 where
   pub value : n .value ≡ value (next bs)
   pub end : n .end ≡ from + length (next bs)
 
--- the next word is a decimal, and the byte `after` follows it
-unfoldable pub isFollowed : List ℕ → ℕ → Bool
-isFollowed bs after = isDecimal (next bs) && eqb (getD bs (length (next bs)) 0) after
+-- the next word is a decimal, and is followed by what ends a word after which so many are left
+unfoldable pub isEnded : List ℕ → ℕ → Bool
+isEnded bs left = isDecimal (next bs) && eqb (getD bs (length (next bs)) 0) (ending left)

@@ -51,7 +51,7 @@ pub fn read(line: &[u8]) -> Reading
     let mut j = 0;
     while j < 8 {
         let n = numbers::leading(line, at);
-        if !numbers::ends(line, at, n, numbers::ending(7 - j)) {
+        if !numbers::ends(line, at, n, 7 - j) {
             return Reading::Unreadable;
         }
         numbers[j] = n.value;

@@ -3,7 +3,7 @@ ghost use mathlib.Core.Path.{_≡_};
 ghost use Prim.Native.Nat.{_≤_};
 ghost use lib.ListN.{length, drop};
 ghost use Rattle.line.specs.Form.{isDigit, ending};
-ghost use Rattle.line.specs.Scan.{Leads, isFollowed};
+ghost use Rattle.line.specs.Scan.{Leads, isEnded};
 
 // A number that was read, and the place after its last digit.
 pub struct Number {
@@ -65,10 +65,11 @@ pub fn leading(line: &[u8], from: usize) -> Number
     }
 }
 
-// Whether a number that was read from a place on is a decimal, and is followed by the byte that has to follow it.
-pub fn ends(line: &[u8], from: usize, n: Number, after: u8) -> bool
+// Whether a number that was read from a place on is a decimal, and is followed by what ends a word after which so many
+// are left.
+pub fn ends(line: &[u8], from: usize, n: Number, left: usize) -> bool
     requires { ⌜ Leads (drop from (now line)) from n × (from ≤ length (now line)) ⌝ }
-    ensures { λ t. ⌜ t ≡ isFollowed (drop from (now (line .entry))) after ⌝ }
+    ensures { λ t. ⌜ t ≡ isEnded (drop from (now (line .entry))) left ⌝ }
 {
     let end = n.end;
     if end == from {
@@ -80,5 +81,5 @@ pub fn ends(line: &[u8], from: usize, n: Number, after: u8) -> bool
     if end == line.len() {
         return false;
     }
-    line[end] == after
+    line[end] == ending(left)
 }

@@ -1,0 +1,81 @@
+-- The form of a line by what is found in it, and that a line has one reading. Assumes nothing.
+use mathlib.Core.Path.{_≡_, refl, sym, ap, _∙_}
+use mathlib.Core.Bool.{true, false, false≢true}
+use mathlib.Core.List.{List, map}
+use Prim.Native.Nat.{ℕ, _<_, _≤_}
+use native.Mathlib.Omega.{arith}
+use lib.ListN.{length, getD, length-map}
+use Rattle.codebook.specs.declared.Report.{Report}
+use Rattle.line.specs.declared.Reading.{Reading}
+use Rattle.line.specs.declared.Reading.the-variants.{Read, Unreadable}
+use Rattle.line.specs.Form.{value, joined, numbersOf, Form, Reads}
+use Rattle.line.proofs.Scanned.{words, good, good-decimals, good-joined, joined-good, joined-words}
+
+-- ---- a line that has the form
+
+module _ {line : List ℕ} {r : Report} (f : Form line r) where
+  -- it has eight words
+  eight : length (f .words) ≡ 8
+  eight = sym (length-map (f .words) value) ∙ ap length (f .numbers)
+
+  form-good : good 8 line ≡ true
+  form-good =
+      ap (good 8) (f .joins)
+      ∙ ap (λ (n : ℕ). good n (joined (f .words))) (sym eight)
+      ∙ joined-good (f .words) (f .decimals)
+
+  -- they are those that are found
+  form-words : words 8 line ≡ f .words
+  form-words =
+      ap (words 8) (f .joins)
+      ∙ ap (λ (n : ℕ). words n (joined (f .words))) (sym eight)
+      ∙ joined-words (f .words) (f .decimals)
+
+  form-numbers : map value (words 8 line) ≡ numbersOf r
+  form-numbers = ap (map value) form-words ∙ f .numbers
+
+-- ---- a line has the form if it is good
+
+pub reads-report : (line : List ℕ) {r : Report} → length line ≤ 256 → good 8 line ≡ true
+    → map value (words 8 line) ≡ numbersOf r → Reads line (Read r)
+reads-report line h g e = record {
+  words = words 8 line;
+  decimals = good-decimals 8 line g;
+  numbers = e;
+  joins = good-joined 8 line g;
+  few = h;
+}
+
+-- and has none if it is not, or is too long
+pub reads-nothing : (line : List ℕ) → good 8 line ≡ false → Reads line Unreadable
+reads-nothing line g r f = false≢true (sym g ∙ form-good f)
+
+pub too-long : (line : List ℕ) → 256 < length line → Reads line Unreadable
+too-long line h r f = omega (arith, f .few)
+
+-- ---- a line has one reading
+
+numbers-one : {r r′ : Report} → numbersOf r ≡ numbersOf r′ → r ≡ r′
+numbers-one {r} {r′} e =
+    let at : (k : ℕ) → getD (numbersOf r) k 0 ≡ getD (numbersOf r′) k 0 = λ k. ap (λ (xs : List ℕ). getD xs k 0) e in
+    λ i. record {
+      n1 = at 0 i;
+      n2 = at 1 i;
+      mode = at 2 i;
+      v = at 3 i;
+      i11 = at 4 i;
+      i12 = at 5 i;
+      i13 = at 6 i;
+      i2 = at 7 i;
+    }
+
+-- a line stands for one report
+pub form-one : {line : List ℕ} {r r′ : Report} → Form line r → Form line r′ → r ≡ r′
+form-one f g = numbers-one (sym (form-numbers f) ∙ form-numbers g)
+
+-- two readings of a line are one
+pub reads-one : (line : List ℕ) (a a′ : Reading) → Reads line a → Reads line a′ → a ≡ a′
+reads-one line (Read r) (Read r′) p q = ap Read (form-one p q)
+reads-one line (Read r) Unreadable p q = absurd (q r p)
+reads-one line Unreadable (Read r) p q = absurd (p r q)
+reads-one line Unreadable Unreadable p q = refl

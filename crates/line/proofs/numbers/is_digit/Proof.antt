@@ -1,0 +1,17 @@
+-- `numbers::is_digit` meets its contract: its tests are those of the definition. Assumes nothing.
+use borrow.Author.Tests.{le-leb, lt-leb}
+use native.Mathlib.Omega.{arith}
+use Rattle.line.specs.Form.{nought, isDigit}
+use Rattle.line.proofs.numbers.is_digit.Statement.{statement}
+use Rattle.line.proofs.numbers.is_digit.Tie as tie
+
+returns : tie.Need-returns
+unfolding isDigit
+returns c = rw (lt-leb nought _ (c .if1 .taken))
+
+returns-2 : tie.Need-returns-2
+unfolding isDigit
+returns-2 c = rw (le-leb nought (c .before .args .b) (omega arith))
+
+pub is-digit-spec : {M : Type 1} → statement M
+is-digit-spec = tie.close (tie.spec returns returns-2)

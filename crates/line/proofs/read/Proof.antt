@@ -1,0 +1,191 @@
+-- `read` meets its contract: at each turn the line is good if what is left of it is, and its numbers are those that are
+-- stored and those that are left. Assumes nothing.
+use mathlib.Core.Path.{_≡_, refl, sym, ap, _∙_}
+use mathlib.Core.Bool.{true}
+use mathlib.Core.List.{List, [], _∷_, _++_, map, append-nil}
+use Prim.Native.Nat.{ℕ, zero, suc, _+_, _-_, _<_, _≤_}
+use native.Mathlib.Numerals.{add-one}
+use native.Mathlib.Omega.{arith}
+use lib.ListN.{length, take, drop, set, getD, length-set, length-drop, drop-of-length-le}
+use lib.Seq.{take-all, take-suc-set, append-snoc, drop-cons}
+use borrow.Author.Needs.{needs}
+use borrow.Author.Tests.{not-false, not-true}
+use Rattle.line.specs.Form.{value}
+use Rattle.line.specs.Scan.{next, isEnded}
+use Rattle.line.proofs.Scanned.{words, good, ended-within, good-stops, good-goes-on, words-go-on, good-past, good-not-past, words-none}
+use Rattle.line.proofs.Forms.{reads-report, reads-nothing, too-long}
+use Rattle.line.proofs.read.Statement.{statement}
+use Rattle.line.proofs.read.Tie as tie
+use Rattle.line.proofs.read.Reads as reads
+use Rattle.line.proofs.read.Lts as lts
+use Rattle.line.proofs.numbers.ends.Reads as ends-reads
+use Rattle.line.proofs.numbers.leading.Reads as leading-reads
+
+abbrev Inv-loop : tie.InvT-loop
+Inv-loop line numbers₀ at₀ j₀ numbers at j =
+    (j ≤ 8) × (at ≤ length line) × (length numbers ≡ 8) × (good 8 line ≡ good (8 - j) (drop at line))
+    × (map value (words 8 line) ≡ take j numbers ++ map value (words (8 - j) (drop at line)))
+
+abbrev μ-loop : tie.MeasureT-loop
+μ-loop line numbers₀ at₀ j₀ numbers at j = 8 - j
+
+returns : tie.Need-returns Inv-loop μ-loop
+returns c = too-long _ (c .if1 .taken)
+
+loop-holds : tie.Need-loop-holds Inv-loop μ-loop
+loop-holds c = (omega arith, omega arith, refl, refl, refl)
+
+leading-requires : tie.Need-leading-requires Inv-loop μ-loop
+leading-requires c κs = omega arith
+
+sub-ends : tie.Need-sub-ends Inv-loop μ-loop
+sub-ends c = omega arith
+
+ends-requires : tie.Need-ends-requires Inv-loop μ-loop
+ends-requires c κs = (c .leading .ensures, omega arith)
+
+returns-2 : tie.Need-returns-2 Inv-loop μ-loop
+returns-2 c =
+    let l = c .before .before .before .before .loop in
+    let not-ended = sym (c .before .ends .ensures) ∙ not-true _ (c .if2 .taken) in
+    reads-nothing _ (l .inv .3 ∙ good-stops (8 - l .j) (7 - l .j) _ (omega arith) not-ended)
+
+-- ---- a turn that reads a word
+
+is-ended : (c : tie.Else2 Inv-loop μ-loop)
+    → let t = c .before .before .before .before in
+    isEnded (drop (t .loop .at) (t .before .before .before .args .line .now)) (7 - t .loop .j) ≡ true
+is-ended c = sym (c .before .ends .ensures) ∙ not-false _ (c .if2 .left)
+
+-- the place after the byte that follows the word
+within : (c : tie.Else2 Inv-loop μ-loop)
+    → c .before .before .leading .result .end + 1 ≤ length (c .before .before .before .before .before .before .before .args .line .now)
+within c =
+    let t = c .before .before .before .before in
+    let line : List ℕ = t .before .before .before .args .line .now in
+    omega (
+      arith,
+      c .before .before .leading .ensures .end,
+      ended-within (drop (t .loop .at) line) (7 - t .loop .j) (is-ended c),
+      length-drop (t .loop .at) line,
+    )
+
+mul-numbers : tie.Need-mul-numbers Inv-loop μ-loop
+mul-numbers c = omega arith
+
+array-write-numbers : tie.Need-array-write-numbers Inv-loop μ-loop
+array-write-numbers c = omega arith
+
+add-at : tie.Need-add-at Inv-loop μ-loop
+add-at c = omega (arith, within (c .before))
+
+add-j : tie.Need-add-j Inv-loop μ-loop
+add-j c = omega arith
+
+loop-less : tie.Need-loop-less Inv-loop μ-loop
+loop-less c = omega arith
+
+-- a number more is stored
+stored-next : {xs : List ℕ} (ns ys : List ℕ) (j n : ℕ) → xs ≡ take j ns ++ n ∷ ys → j < length ns
+    → xs ≡ take (j + 1) (set ns j n) ++ ys
+stored-next ns ys j n e h = e ∙ sym (rw (add-one, take-suc-set ns j n h) (append-snoc (take j ns) n ys))
+
+loop-again : tie.Need-loop-again Inv-loop μ-loop
+loop-again c =
+    let e = c .before in
+    let t = e .before .before .before .before in
+    let l = t .loop in
+    let line : List ℕ = t .before .before .before .args .line .now in
+    let n = e .before .before .leading .result in
+    let read = e .before .before .leading .ensures in
+    let so-many : 8 - l .j ≡ suc (7 - l .j) = omega arith in
+    let fewer : 8 - (l .j + 1) ≡ 7 - l .j = omega arith in
+    let goes-on = good-goes-on (8 - l .j) (7 - l .j) (l .at) (n .end) line so-many (read .end) (is-ended e) in
+    let go-on = words-go-on (8 - l .j) (7 - l .j) (l .at) (n .end) line so-many (read .end) in (
+      omega arith,
+      within e,
+      simp length-set (l .inv .2),
+      rw fewer (l .inv .3 ∙ goes-on),
+      rw fewer (stored-next (l .numbers) _ (l .j) (n .value) (rw (go-on, ← read .value) at (l .inv .4)) (omega arith)),
+    )
+
+returns-3 : tie.Need-returns-3 Inv-loop μ-loop
+returns-3 c =
+    let l = c .before .before .loop in
+    reads-nothing _ (l .inv .3 ∙ good-not-past (8 - l .j) (l .at) _ (omega arith) (c .if3 .taken))
+
+array-read-t15 : tie.Need-array-read-t15 Inv-loop μ-loop
+array-read-t15 c = search needs
+
+array-read-t18 : tie.Need-array-read-t18 Inv-loop μ-loop
+array-read-t18 c = search needs
+
+array-read-t21 : tie.Need-array-read-t21 Inv-loop μ-loop
+array-read-t21 c = search needs
+
+array-read-t24 : tie.Need-array-read-t24 Inv-loop μ-loop
+array-read-t24 c = search needs
+
+array-read-t27 : tie.Need-array-read-t27 Inv-loop μ-loop
+array-read-t27 c = search needs
+
+array-read-t30 : tie.Need-array-read-t30 Inv-loop μ-loop
+array-read-t30 c = search needs
+
+array-read-t33 : tie.Need-array-read-t33 Inv-loop μ-loop
+array-read-t33 c = search needs
+
+array-read-t36 : tie.Need-array-read-t36 Inv-loop μ-loop
+array-read-t36 c = search needs
+
+-- a list by its places
+places : ℕ → ℕ → List ℕ → List ℕ
+places zero at xs = []
+places (suc n) at xs = getD xs at 0 ∷ places n (suc at) xs
+
+by-places : (n at : ℕ) (xs : List ℕ) → at + n ≡ length xs → drop at xs ≡ places n at xs
+unfolding places
+by-places zero at xs e =
+    let past : length xs ≤ at = omega arith in
+    drop-of-length-le xs past
+by-places (suc n) at xs e =
+    drop-cons xs at 0 (omega arith) ∙ ap (λ (ys : List ℕ). getD xs at 0 ∷ ys) (by-places n (suc at) xs (omega arith))
+
+returns-4 : tie.Need-returns-4 Inv-loop μ-loop
+unfolding places
+returns-4 c =
+    let l = c .before .before .loop in
+    let none = words-none (8 - l .j) (drop (l .at) (c .before .before .before .before .before .args .line .now)) (omega arith) in
+    let all = take-all (l .j) (l .numbers) (omega arith) ∙ by-places 8 0 (l .numbers) (omega arith) in
+    reads-report _ (omega arith)
+    (l .inv .3 ∙ good-past (8 - l .j) (l .at) _ (omega arith) (omega arith))
+    (l .inv .4 ∙ rw (none, append-nil) all)
+
+pub read-spec : {M : Type 1} → statement M
+read-spec =
+    tie.close
+    (tie.spec
+    Inv-loop
+    μ-loop
+    returns
+    loop-holds
+    leading-requires
+    sub-ends
+    ends-requires
+    returns-2
+    mul-numbers
+    array-write-numbers
+    add-at
+    add-j
+    loop-less
+    loop-again
+    returns-3
+    array-read-t15
+    array-read-t18
+    array-read-t21
+    array-read-t24
+    array-read-t27
+    array-read-t30
+    array-read-t33
+    array-read-t36
+    returns-4)
