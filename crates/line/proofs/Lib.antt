@@ -4,3 +4,4 @@ pub mod Scanned
 pub mod Forms
 pub mod Puts
 pub mod Rows
+pub mod Composed

@@ -73,7 +73,7 @@ loop-again c =
       omega arith,
       omega (arith, few e),
       rw (next, ← e .before .ending .ensures)
-      (stands-then (l .inv .2) (record { puts = e .ended .ensures; kept = e .ended .kept .0 })),
+          (stands-then (l .inv .2) (record { puts = e .ended .ensures; kept = e .ended .kept .0 })),
     )
 
 same-length : tie.Need-same-length Inv-loop μ-loop
