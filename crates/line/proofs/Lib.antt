@@ -2,3 +2,4 @@
 pub mod Leading
 pub mod Scanned
 pub mod Forms
+pub mod Unique
