@@ -49,7 +49,7 @@ pub lead-some : (k : ℕ) (bs : List ℕ) (at : ℕ) → 0 < k → at < length b
     → lead k (drop at bs) ≡ getD bs at 0 ∷ lead (k - 1) (drop (at + 1) bs)
 lead-some k bs at h l e = rw (drop-cons bs at 0 l, add-one) (some-first k (getD bs at 0) (drop (suc at) bs) h e)
 
--- ---- what leads
+-- ---- what leads: digits, at most so many
 
 pub lead-digits : (k : ℕ) (bs : List ℕ) → every isDigit (lead k bs) ≡ true
 unfolding lead every
@@ -63,6 +63,7 @@ lead-few zero bs = omega arith
 lead-few (suc k) [] = omega arith
 lead-few (suc k) (b ∷ bs) = by-test (isDigit b) (λ e. rw e (omega (arith, lead-few k bs))) (λ e. rw e (omega arith))
 
+-- it stands at the front
 pub lead-front : (k : ℕ) (bs : List ℕ) → bs ≡ lead k bs ++ drop (length (lead k bs)) bs
 unfolding lead
 lead-front zero bs = refl
@@ -83,13 +84,13 @@ lead-word (suc k) (b ∷ w) x bs d h n =
     rw (and-true-left (isDigit b) _ d)
     (ap (λ (y : List ℕ). b ∷ y) (lead-word k w x bs (and-true-right (isDigit b) _ d) (omega arith) n))
 
--- ---- its value
+-- ---- the value of what leads
 
 pub digit-above : (b : ℕ) → isDigit b ≡ true → nought ≤ b
 unfolding isDigit
 digit-above b e = leb-true nought b (and-true-left (leb nought b) _ e)
 
-pub digit-below : (b : ℕ) → isDigit b ≡ true → b ≤ nought + 9
+digit-below : (b : ℕ) → isDigit b ≡ true → b ≤ nought + 9
 unfolding isDigit
 digit-below b e = leb-true b (nought + 9) (and-true-right (leb nought b) _ e)
 
@@ -104,7 +105,7 @@ unfolding valueAfter
 value-mono [] m n h = h
 value-mono (b ∷ bs) m n h = value-mono bs (10 * m + (b - nought)) (10 * n + (b - nought)) (omega arith)
 
--- k nines
+-- so many nines: no number of so many digits is larger
 most : ℕ → List ℕ
 most k = replicate k (nought + 9)
 
@@ -114,15 +115,12 @@ value-most zero bs n = omega arith
 value-most (suc k) [] n = value-grows (most (suc k)) n
 value-most (suc k) (b ∷ bs) n =
     by-test (isDigit b)
-    (λ e. rw e (
-    omega (
-      arith,
-      value-most k bs (10 * n + (b - nought)),
-      value-mono (most k) (10 * n + (b - nought)) (10 * n + 9) (omega (arith, digit-below b e)),
-    )
-    ))
+    (λ e.
+    let nine = value-mono (most k) (10 * n + (b - nought)) (10 * n + 9) (omega (arith, digit-below b e)) in
+    rw e (omega (arith, value-most k bs (10 * n + (b - nought)), nine)))
     (λ e. rw e (value-grows (most (suc k)) n))
 
+-- a word of five digits is below 100000
 pub value-small : (bs : List ℕ) → value (next bs) < 100000
 unfolding valueAfter most
 value-small bs = omega (arith, value-most 5 bs 0)

@@ -5,3 +5,4 @@ pub mod Forms
 pub mod Puts
 pub mod Rows
 pub mod Composed
+pub mod Unique

@@ -1,16 +1,16 @@
--- A line taken apart: eight words, one after another, each followed by what has to follow it. Assumes nothing.
-use mathlib.Core.Path.{_≡_, refl, sym, ap, _∙_}
+-- A text taken apart into words, each followed by what has to follow it. Assumes nothing.
+use mathlib.Core.Path.{_≡_, refl, ap, _∙_}
 use mathlib.Core.Bool.{Bool, true, false, _&&_, false≢true}
 use mathlib.Core.List.{List, [], _∷_, _++_}
 use Prim.Native.Nat.{ℕ, zero, suc, _+_, _<_, _≤_}
 use native.Mathlib.Numerals.{add-one}
 use native.Mathlib.Omega.{arith}
-use lib.Dec.{leb, eqb}
+use lib.Dec.{leb}
 use lib.ListN.{length, drop, getD, drop-of-length-le}
 use lib.Seq.{drop-cons, drop-drop, drop-append-add, getD-append-seam}
 use borrow.Author.Tests.{eq-eqb, eqb-true, leb-true}
 use Rattle.codebook.proofs.Booleans.{and-true-left, and-true-right}
-use Rattle.line.specs.Form.{isDigit, every, value, isDecimal, ending, joined}
+use Rattle.line.specs.Form.{isDigit, every, isDecimal, ending, joined}
 use Rattle.line.specs.Scan.{next, isEnded}
 use Rattle.line.proofs.Leading.{lead-front, lead-word}
 
@@ -29,22 +29,22 @@ good zero [] = true
 good zero (b ∷ bs) = false
 good (suc left) bs = isEnded bs left && good left (rest bs)
 
-pub length-words : (n : ℕ) (bs : List ℕ) → length (words n bs) ≡ n
+length-words : (n : ℕ) (bs : List ℕ) → length (words n bs) ≡ n
 unfolding words
 length-words zero bs = refl
 length-words (suc left) bs = ap suc (length-words left (rest bs))
 
 -- ---- what follows a word
 
-not-digit : (left : ℕ) → isDigit (ending left) ≡ false
+ending-no-digit : (left : ℕ) → isDigit (ending left) ≡ false
 unfolding isDigit ending
-not-digit zero = refl
-not-digit (suc left) = refl
+ending-no-digit zero = refl
+ending-no-digit (suc left) = refl
 
-not-nought : (left : ℕ) → 0 < ending left
+pub ending-positive : (left : ℕ) → 0 < ending left
 unfolding ending
-not-nought zero = omega arith
-not-nought (suc left) = omega arith
+ending-positive zero = omega arith
+ending-positive (suc left) = omega arith
 
 inside : (bs : List ℕ) (n : ℕ) → 0 < getD bs n 0 → n < length bs
 inside [] n h = absurd (omega arith)
@@ -52,7 +52,7 @@ inside (b ∷ bs) zero h = omega arith
 inside (b ∷ bs) (suc n) h = omega (arith, inside bs n h)
 
 module _ (bs : List ℕ) (left : ℕ) (e : isEnded bs left ≡ true) where
-  pub ended-decimal : isDecimal (next bs) ≡ true
+  ended-decimal : isDecimal (next bs) ≡ true
   unfolding isEnded
   ended-decimal = and-true-left (isDecimal (next bs)) _ e
 
@@ -62,7 +62,7 @@ module _ (bs : List ℕ) (left : ℕ) (e : isEnded bs left ≡ true) where
 
   -- a byte follows the word
   pub ended-within : length (next bs) < length bs
-  ended-within = inside bs (length (next bs)) (rw ended-byte (not-nought left))
+  ended-within = inside bs (length (next bs)) (rw ended-byte (ending-positive left))
 
   -- the text is its next word, the byte that follows it, and the rest
   ended-joined : bs ≡ next bs ++ ending left ∷ rest bs
@@ -134,7 +134,7 @@ module _ (w : List ℕ) (d : isDecimal w ≡ true) (left : ℕ) (bs : List ℕ) 
   next-joined =
       let h = and-true-right (every isDigit w) _ d in
       let few = and-true-left (leb (length w) 5) _ (and-true-right (leb 1 (length w)) _ h) in
-      lead-word 5 w (ending left) bs (and-true-left (every isDigit w) _ d) (leb-true _ _ few) (not-digit left)
+      lead-word 5 w (ending left) bs (and-true-left (every isDigit w) _ d) (leb-true _ _ few) (ending-no-digit left)
 
   rest-joined : rest (w ++ ending left ∷ bs) ≡ bs
   unfolding rest

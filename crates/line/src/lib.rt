@@ -1,10 +1,11 @@
 // One line of text: read as a report, and answered by text.
 use codebook::Report;
 use precoder::Record;
+ghost use mathlib.Core.Path.{_≡_};
 ghost use Prim.Native.Nat.{_≤_};
 ghost use lib.ListN.{length};
 ghost use Rattle.line.specs.declared.Reading.the-variants.{Read};
-ghost use Rattle.line.specs.Form.{Reads};
+ghost use Rattle.line.specs.Form.{numbersOf, Reads};
 ghost use Rattle.line.specs.Text.{longest, Composed, Prints};
 
 mod numbers;
@@ -37,6 +38,22 @@ const LONGEST_LINE: usize = 256;
 // The bytes of the longest text: `ok 32 8 256`, and 8 lines of 32 phases, each of three digits and what follows it.
 const LONGEST_TEXT: usize = 12 + 8 * 32 * 4;
 
+// The report of eight numbers, in the order of a line.
+fn report_of(numbers: [u32; 8]) -> Report
+    ensures { λ r. ⌜ numbersOf r ≡ numbers ⌝ }
+{
+    Report {
+        n1: numbers[0],
+        n2: numbers[1],
+        mode: numbers[2],
+        v: numbers[3],
+        i11: numbers[4],
+        i12: numbers[5],
+        i13: numbers[6],
+        i2: numbers[7],
+    }
+}
+
 // Reads a line: N1 N2 mode v i11 i12 i13 i2, decimals of 1 to 5 digits, at most 65535, one space between them and a
 // newline at the end. Anything else is unreadable: a line without its newline, a byte after it, a sign, a second space.
 // `2 1 1 2 7 0 1 0` and a newline is the report of (2,1) with mode 1, two layers, i11 = 7, i13 = 1 and the rest 0.
@@ -61,16 +78,7 @@ pub fn read(line: &[u8]) -> Reading
     if at < line.len() {
         return Reading::Unreadable;
     }
-    Reading::Read(Report {
-        n1: numbers[0],
-        n2: numbers[1],
-        mode: numbers[2],
-        v: numbers[3],
-        i11: numbers[4],
-        i12: numbers[5],
-        i13: numbers[6],
-        i2: numbers[7],
-    })
+    Reading::Read(report_of(numbers))
 }
 
 // The text for a report, all mask bits ones.

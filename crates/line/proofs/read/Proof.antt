@@ -1,25 +1,22 @@
 -- `read` meets its contract: at each turn the line is good if what is left of it is, and its numbers are those that are
 -- stored and those that are left. Assumes nothing.
-use mathlib.Core.Path.{_≡_, refl, sym, ap, _∙_}
+use mathlib.Core.Path.{_≡_, refl, sym, _∙_}
 use mathlib.Core.Bool.{true}
-use mathlib.Core.List.{List, [], _∷_, _++_, map, append-nil}
-use Prim.Native.Nat.{ℕ, zero, suc, _+_, _-_, _<_, _≤_}
+use mathlib.Core.List.{List, _∷_, _++_, map, append-nil}
+use Prim.Native.Nat.{ℕ, suc, _+_, _-_, _<_, _≤_}
 use native.Mathlib.Numerals.{add-one}
 use native.Mathlib.Omega.{arith}
-use lib.ListN.{length, take, drop, set, getD, length-set, length-drop, drop-of-length-le}
-use lib.Seq.{take-all, take-suc-set, append-snoc, drop-cons}
+use lib.ListN.{length, take, drop, set, length-set, length-drop}
+use lib.Seq.{take-all, take-suc-set, append-snoc}
 use borrow.Author.Needs.{needs}
 use borrow.Author.Tests.{not-false, not-true}
 use Rattle.line.specs.Form.{value}
-use Rattle.line.specs.Scan.{next, isEnded}
-use Rattle.line.proofs.Scanned.{words, good, ended-within, good-stops, good-goes-on, words-go-on, good-past, good-not-past, words-none}
+use Rattle.line.specs.Scan.{isEnded}
+use Rattle.line.proofs.Scanned.{words, good, ended-within, good-stops, good-goes-on, good-past, good-not-past}
+use Rattle.line.proofs.Scanned.{words-go-on, words-none}
 use Rattle.line.proofs.Forms.{reads-report, reads-nothing, too-long}
 use Rattle.line.proofs.read.Statement.{statement}
 use Rattle.line.proofs.read.Tie as tie
-use Rattle.line.proofs.read.Reads as reads
-use Rattle.line.proofs.read.Lts as lts
-use Rattle.line.proofs.numbers.ends.Reads as ends-reads
-use Rattle.line.proofs.numbers.leading.Reads as leading-reads
 
 abbrev Inv-loop : tie.InvT-loop
 Inv-loop line numbers₀ at₀ j₀ numbers at j =
@@ -30,7 +27,7 @@ abbrev μ-loop : tie.MeasureT-loop
 μ-loop line numbers₀ at₀ j₀ numbers at j = 8 - j
 
 returns : tie.Need-returns Inv-loop μ-loop
-returns c = too-long _ (c .if1 .taken)
+returns c = too-long _ (omega arith)
 
 loop-holds : tie.Need-loop-holds Inv-loop μ-loop
 loop-holds c = (omega arith, omega arith, refl, refl, refl)
@@ -59,7 +56,8 @@ is-ended c = sym (c .before .ends .ensures) ∙ not-false _ (c .if2 .left)
 
 -- the place after the byte that follows the word
 within : (c : tie.Else2 Inv-loop μ-loop)
-    → c .before .before .leading .result .end + 1 ≤ length (c .before .before .before .before .before .before .before .args .line .now)
+    → let a = c .before .before in
+    a .leading .result .end + 1 ≤ length (a .before .before .before .before .before .args .line .now)
 within c =
     let t = c .before .before .before .before in
     let line : List ℕ = t .before .before .before .args .line .now in
@@ -114,52 +112,20 @@ returns-3 c =
     let l = c .before .before .loop in
     reads-nothing _ (l .inv .3 ∙ good-not-past (8 - l .j) (l .at) _ (omega arith) (c .if3 .taken))
 
-array-read-t15 : tie.Need-array-read-t15 Inv-loop μ-loop
-array-read-t15 c = search needs
-
-array-read-t18 : tie.Need-array-read-t18 Inv-loop μ-loop
-array-read-t18 c = search needs
-
-array-read-t21 : tie.Need-array-read-t21 Inv-loop μ-loop
-array-read-t21 c = search needs
-
-array-read-t24 : tie.Need-array-read-t24 Inv-loop μ-loop
-array-read-t24 c = search needs
-
-array-read-t27 : tie.Need-array-read-t27 Inv-loop μ-loop
-array-read-t27 c = search needs
-
-array-read-t30 : tie.Need-array-read-t30 Inv-loop μ-loop
-array-read-t30 c = search needs
-
-array-read-t33 : tie.Need-array-read-t33 Inv-loop μ-loop
-array-read-t33 c = search needs
-
-array-read-t36 : tie.Need-array-read-t36 Inv-loop μ-loop
-array-read-t36 c = search needs
-
--- a list by its places
-places : ℕ → ℕ → List ℕ → List ℕ
-places zero at xs = []
-places (suc n) at xs = getD xs at 0 ∷ places n (suc at) xs
-
-by-places : (n at : ℕ) (xs : List ℕ) → at + n ≡ length xs → drop at xs ≡ places n at xs
-unfolding places
-by-places zero at xs e =
-    let past : length xs ≤ at = omega arith in
-    drop-of-length-le xs past
-by-places (suc n) at xs e =
-    drop-cons xs at 0 (omega arith) ∙ ap (λ (ys : List ℕ). getD xs at 0 ∷ ys) (by-places n (suc at) xs (omega arith))
+report-of-requires : tie.Need-report-of-requires Inv-loop μ-loop
+report-of-requires c κs = search needs
 
 returns-4 : tie.Need-returns-4 Inv-loop μ-loop
-unfolding places
 returns-4 c =
-    let l = c .before .before .loop in
-    let none = words-none (8 - l .j) (drop (l .at) (c .before .before .before .before .before .args .line .now)) (omega arith) in
-    let all = take-all (l .j) (l .numbers) (omega arith) ∙ by-places 8 0 (l .numbers) (omega arith) in
-    reads-report _ (omega arith)
-    (l .inv .3 ∙ good-past (8 - l .j) (l .at) _ (omega arith) (omega arith))
-    (l .inv .4 ∙ rw (none, append-nil) all)
+    let t = c .before .before .before in
+    let l = t .loop in
+    let line : List ℕ = t .before .before .before .args .line .now in
+    let none = words-none (8 - l .j) (drop (l .at) line) (omega arith) in
+    let all : map value (words 8 line) ≡ l .numbers =
+    l .inv .4 ∙ rw (none, append-nil) (take-all (l .j) (l .numbers) (omega arith)) in
+    reads-report line (omega arith)
+    (l .inv .3 ∙ good-past (8 - l .j) (l .at) line (omega arith) (omega arith))
+    (all ∙ sym (c .report-of .ensures))
 
 pub read-spec : {M : Type 1} → statement M
 read-spec =
@@ -180,12 +146,5 @@ read-spec =
     loop-less
     loop-again
     returns-3
-    array-read-t15
-    array-read-t18
-    array-read-t21
-    array-read-t24
-    array-read-t27
-    array-read-t30
-    array-read-t33
-    array-read-t36
+    report-of-requires
     returns-4)

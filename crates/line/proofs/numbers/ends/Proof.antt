@@ -1,11 +1,9 @@
 -- `numbers::ends` meets its contract: its tests are those of a decimal that is ended, without those that hold of any word
 -- that is read. Assumes nothing.
-use mathlib.Core.Path.{_≡_, refl}
-use mathlib.Core.Bool.{false}
+use mathlib.Core.Path.{_≡_}
 use mathlib.Core.List.{List}
-use Prim.Native.Nat.{ℕ, zero, suc}
+use Prim.Native.Nat.{ℕ}
 use native.Mathlib.Omega.{arith}
-use lib.Dec.{eqb}
 use lib.ListN.{length, drop, getD, length-drop, List·getD-eq-default}
 use lib.Seq.{getD-drop}
 use borrow.Author.Needs.{needs}
@@ -14,13 +12,9 @@ use Rattle.codebook.proofs.Booleans.{and-nothing}
 use Rattle.line.specs.Form.{value, ending}
 use Rattle.line.specs.Scan.{next, isEnded}
 use Rattle.line.proofs.Leading.{next-within, decimal-next}
+use Rattle.line.proofs.Scanned.{ending-positive}
 use Rattle.line.proofs.numbers.ends.Statement.{statement}
 use Rattle.line.proofs.numbers.ends.Tie as tie
-
-not-ended : (left : ℕ) → eqb 0 (ending left) ≡ false
-unfolding ending
-not-ended zero = refl
-not-ended (suc left) = refl
 
 returns : tie.Need-returns
 unfolding isEnded
@@ -43,7 +37,8 @@ returns-3 c =
     let bs : List ℕ = drop (s .args .from) (s .args .line .now) in
     let past : getD bs (length (next bs)) 0 ≡ 0 =
     List·getD-eq-default bs 0 (omega (arith, s .pre .0 .end, length-drop (s .args .from) (s .args .line .now))) in
-    rw (past, not-ended (s .args .left), and-nothing _)
+    let no-end = ne-eqb 0 (ending (s .args .left)) (λ e. omega (arith, ending-positive (s .args .left))) in
+    rw (past, no-end, and-nothing _)
 
 shared-slice-read-result : tie.Need-shared-slice-read-result
 shared-slice-read-result c =

@@ -10,12 +10,10 @@ use borrow.Author.Needs.{needs}
 use borrow.Author.Tests.{not-false, not-true}
 use Rattle.line.specs.Form.{nought, isDigit, valueAfter, value}
 use Rattle.line.specs.Scan.{lead, next}
-use Rattle.line.proofs.Leading.{lead-none, lead-past, lead-zero, lead-some, digit-above, value-grows, value-small, leads}
+use Rattle.line.proofs.Leading.{lead-none, lead-past, lead-zero, lead-some, leads}
+use Rattle.line.proofs.Leading.{digit-above, value-grows, value-small}
 use Rattle.line.proofs.numbers.leading.Statement.{statement}
 use Rattle.line.proofs.numbers.leading.Tie as tie
-use Rattle.line.proofs.numbers.leading.Reads as reads
-use Rattle.line.proofs.numbers.leading.Lts as lts
-use Rattle.line.proofs.numbers.is_digit.Reads as is-digit-reads
 
 abbrev Inv-loop : tie.InvT-loop
 Inv-loop line from n₀ end₀ left₀ n end left =
