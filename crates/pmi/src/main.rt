@@ -8,5 +8,6 @@ fn main() {
     let n = io::read_full(STDIN_FILENO, &mut line);
     let mut text = [0; 1036];
     let p = line::print(&line[..n], &mut text);
-    io::write_all(STDOUT_FILENO, &text[..p.length]);
+    let written = p.length;
+    io::write_all(STDOUT_FILENO, &text[..written]);
 }
