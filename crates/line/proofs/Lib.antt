@@ -2,4 +2,5 @@
 pub mod Leading
 pub mod Scanned
 pub mod Forms
+pub mod Example
 pub mod Unique
