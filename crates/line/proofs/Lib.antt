@@ -5,4 +5,6 @@ pub mod Forms
 pub mod Puts
 pub mod Rows
 pub mod Composed
+pub mod Example
+pub mod Answered
 pub mod Unique

@@ -109,8 +109,10 @@ loop-again c =
 
 returns-3 : tie.Need-returns-3 Inv-loop μ-loop
 returns-3 c =
-    let l = c .before .before .loop in
-    reads-nothing _ (l .inv .3 ∙ good-not-past (8 - l .j) (l .at) _ (omega arith) (c .if3 .taken))
+    let t = c .before .before in
+    let l = t .loop in
+    let line : List ℕ = t .before .before .before .args .line .now in
+    reads-nothing line (l .inv .3 ∙ good-not-past (8 - l .j) (l .at) line (omega arith) (omega arith))
 
 report-of-requires : tie.Need-report-of-requires Inv-loop μ-loop
 report-of-requires c κs = search needs
