@@ -1,34 +1,33 @@
 -- The text for a report, from what a call of `phases` with all mask bits ones gives and leaves; and the text of a line
 -- that is copied where it fits. Assumes nothing.
 use mathlib.Core.Path.{_≡_, refl, sym, ap, _∙_}
-use mathlib.Core.Bool.{Bool, true, false, cond, _&&_}
+use mathlib.Core.Bool.{Bool, true, false, cond}
 use mathlib.Core.List.{List, [], _∷_, _++_}
-use Prim.Native.Nat.{ℕ, zero, suc, _+_, _*_, _<_, _≤_}
+use Prim.Native.Nat.{ℕ, zero, suc, _*_, _<_, _≤_}
 use native.Mathlib.Nat.{not-suc-le-zero, le-of-suc-le-suc}
 use native.Mathlib.Omega.{arith}
 use lib.Dec.{T, leb, leb→le}
-use lib.ListN.{length, take, drop, replicate, length-append, length-drop}
-use lib.Seq.{take-append-seam, take-append-le, drop-append-le}
+use lib.ListN.{length, take, drop, replicate, length-append}
+use lib.Seq.{take-append-seam}
 use borrow.Author.Tests.{leb-true, le-leb, lt-leb}
 use Rattle.turn.proofs.Tests.{and-left, and-right}
 use Rattle.codebook.specs.declared.Report.{Report}
-use Rattle.codebook.specs.Settings.{_⇒_∣_, isSetting, ports, maskBytes}
+use Rattle.codebook.specs.Settings.{_⇒_∣_, isSetting, maskBytes}
 use Rattle.codebook.specs.Matrix.{matrix}
 use Rattle.codebook.specs.Refusals.{first, onSetting, onRank, onIndices, onAnswer, refusals, refusal}
 use Rattle.codebook.proofs.Booleans.{cond-both}
 use Rattle.codebook.proofs.Known.{mask-few, ports-few}
-use Rattle.codebook.proofs.Layers.{length-matrix}
-use Rattle.codebook.proofs.Passed.{Accepted as Passed, accepted-of}
 use Rattle.precoder.specs.declared.Record.{Record}
-use Rattle.precoder.specs.Answer.{recordOf, bufferOf, Answers}
-use Rattle.precoder.proofs.Answers.{record-number}
+use Rattle.precoder.specs.Answer.{P, Answers}
+use Rattle.precoder.proofs.Parts.{layer-before}
+use Rattle.precoder.proofs.Calls.{number-given, accepted, given-accepted, left-accepted, entries}
 use Rattle.line.specs.declared.Reading.{Reading}
 use Rattle.line.specs.declared.Reading.the-variants.{Read}
 use Rattle.line.specs.declared.Answer.{Answer}
 use Rattle.line.specs.declared.Answer.the-variants.{Accepted, Refused, NoRoom}
 use Rattle.line.specs.declared.Printed.{Printed}
-use Rattle.line.specs.Form.{Reads}
-use Rattle.line.specs.Text.{row, head, rows, answerTo, textTo, fullMask, refusalOf, textOf, printedOf}
+use Rattle.line.specs.Form.{every, Reads}
+use Rattle.line.specs.Text.{head, rows, answerTo, textTo, fullMask, refusalOf, textOf, printedOf}
 use Rattle.line.specs.Text.{Puts, Composed, Prints}
 
 -- ---- the mask
@@ -53,22 +52,18 @@ module _ (n1 n2 : ℕ) {n : ℕ} (e : n ≡ (isSetting n1 n2 ⇒ maskBytes n1 n2
 
 -- ---- a refusal
 
--- every number of the list is at most n
-abbrev allUpTo : ℕ → List (Bool × ℕ) → Bool
-allUpTo n [] = true
-allUpTo n (x ∷ xs) = leb (x .1) n && allUpTo n xs
-
-first-few : (n : ℕ) (xs : List (Bool × ℕ)) → T (allUpTo n xs) → first xs ≤ n
-unfolding first
-first-few n [] t = omega arith
-first-few n (x ∷ xs) t =
-    cond-both (λ k. k ≤ n) (x .0)
-    (leb→le (x .1) n (and-left (leb (x .1) n) (allUpTo n xs) t))
-    (first-few n xs (and-right (leb (x .1) n) (allUpTo n xs) t))
+-- the number of the first test that holds, and 0, pass what every number of the list and 0 pass
+pub first-passes : (f : ℕ → Bool) → T (f 0) → (xs : List (Bool × ℕ)) → T (every (λ x. f (x .1)) xs) → T (f (first xs))
+unfolding first every
+first-passes f z [] t = z
+first-passes f z (x ∷ xs) t =
+    cond-both (λ k. T (f k)) (x .0)
+    (and-left (f (x .1)) (every (λ y. f (y .1)) xs) t)
+    (first-passes f z xs (and-right (f (x .1)) (every (λ y. f (y .1)) xs) t))
 
 refusal-few : (r : Report) (mask : List ℕ) (ranks room : ℕ) → refusal r mask ranks room ≤ 11
-unfolding refusal refusals onSetting onRank onIndices onAnswer
-refusal-few r mask ranks room = first-few 11 (refusals r mask ranks room) tt
+unfolding every refusal refusals onSetting onRank onIndices onAnswer
+refusal-few r mask ranks room = leb→le _ 11 (first-passes (λ k. leb k 11) tt (refusals r mask ranks room) tt)
 
 answer-refused : (r : Report) (k : ℕ) → (k ≡ 0 → ⊥) → Refused k ≡ answerTo r k
 unfolding answerTo
@@ -80,28 +75,24 @@ unfolding answerTo textTo
 text-refused r zero h = absurd (h refl)
 text-refused r (suc k) h = refl
 
--- ---- a matrix, and what stands after it
+-- ---- the lines of a matrix
 
--- lines of layers that lie in the front of a list
-rows-front : (n p : ℕ) (xs ys : List ℕ) → n * p ≤ length xs → rows n p (xs ++ ys) ≡ rows n p xs
+-- what stands after it makes no difference
+rows-before : (n p v : ℕ) (xs ys : List ℕ) → n ≤ v → length xs ≡ v * p → rows n p (xs ++ ys) ≡ rows n p xs
 unfolding rows
-rows-front zero p xs ys h = refl
-rows-front (suc n) p xs ys h =
-    let before : n * p ≤ length xs = omega arith in
-    let inside : p ≤ length (drop (n * p) xs) = simp length-drop (omega arith) in
-    rw (rows-front n p xs ys before, drop-append-le (n * p) xs ys before, take-append-le p (drop (n * p) xs) ys inside)
+rows-before zero p v xs ys h e = refl
+rows-before (suc n) p v xs ys h e = rw (rows-before n p v xs ys (omega arith) e, layer-before p v n xs ys h e)
 
 -- ---- the text for a report
 
 module _ (r : Report) {given : Record} {lent left : List ℕ}
-    (a : Answers r (fullMask (r .n1) (r .n2)) 255 256 (matrix r) lent given left) where
+    (call : Answers r (fullMask (r .n1) (r .n2)) 255 256 (matrix r) lent given left) where
   number : given .refusal ≡ refusalOf r
   unfolding refusalOf
-  number = ap (λ (x : Record). x .refusal) (a .record-is) ∙ record-number r _
+  number = number-given call
 
   pub number-few : given .refusal ≤ 11
-  unfolding refusalOf
-  number-few = rw number (refusal-few r _ _ _)
+  number-few = rw (number-given call) (refusal-few r _ _ _)
 
   pub composed-refused : {buffer out : List ℕ} {n : ℕ} → (given .refusal ≡ 0 → ⊥)
       → Puts (head (Refused (given .refusal))) buffer n out
@@ -113,50 +104,37 @@ module _ (r : Report) {given : Record} {lent left : List ℕ}
       }
 
   module _ (z : given .refusal ≡ 0) where
-    zero-is : refusalOf r ≡ 0
-    zero-is = sym number ∙ z
-
-    passed : Passed r (fullMask (r .n1) (r .n2)) 255 256
-    unfolding refusalOf
-    passed = accepted-of r _ 255 256 zero-is
-
-    record-is : given ≡ recordOf r 0
-    unfolding refusalOf
-    record-is = a .record-is ∙ ap (recordOf r) zero-is
-
-    left-is : left ≡ matrix r ++ drop (length (matrix r)) lent
-    unfolding refusalOf
-    left-is = a .buffer-is ∙ ap (λ (k : ℕ). bufferOf k (matrix r) lent) zero-is
-
     pub ports-small : given .ports ≤ 32
-    ports-small = rw record-is (ports-few _ _ (passed .in-range .setting))
+    ports-small = rw (given-accepted call z) (ports-few _ _ (accepted call z .in-range .setting))
 
     pub layers-small : given .layers ≤ 8
-    layers-small = rw record-is (passed .in-range .few)
+    layers-small = rw (given-accepted call z) (accepted call z .in-range .few)
 
     pub scale-small : given .scale ≤ 256
-    scale-small = rw record-is (passed .fits)
+    scale-small = rw (given-accepted call z) (accepted call z .fits)
 
     pub entries-small : given .layers * given .ports ≤ 256
-    entries-small = rw record-is (passed .fits)
+    entries-small = rw (given-accepted call z) (accepted call z .fits)
+
+    left-is : left ≡ matrix r ++ drop (r .v * P r) lent
+    left-is = left-accepted call z _ (entries call z)
 
     pub entries-within : given .layers * given .ports ≤ length left
-    entries-within =
-        rw (record-is, left-is) (simp length-append (omega (arith, length-matrix r (passed .in-range))))
+    entries-within = rw (given-accepted call z, left-is) (simp length-append (omega (arith, entries call z)))
 
-    rows-is : rows (given .layers) (given .ports) left ≡ rows (r .v) (ports (r .n1) (r .n2)) (matrix r)
+    rows-is : rows (given .layers) (given .ports) left ≡ rows (r .v) (P r) (matrix r)
     rows-is =
-        rw (record-is, left-is)
-        (rows-front (r .v) (ports (r .n1) (r .n2)) (matrix r) _ (omega (arith, length-matrix r (passed .in-range))))
+        rw (given-accepted call z, left-is) (rows-before (r .v) (P r) (r .v) (matrix r) _ (omega arith) (entries call z))
 
     pub composed-accepted : {buffer out : List ℕ} {n : ℕ}
         → Puts (head (Accepted given) ++ rows (given .layers) (given .ports) left) buffer n out
         → Composed (Read r) buffer (record { answer = Accepted given; length = n }) out
     unfolding answerTo textTo
     composed-accepted p =
+        let none = sym number ∙ z in
         record {
-          answers = ap Accepted record-is ∙ ap (answerTo r) (sym zero-is);
-          puts = rw zero-is (rw (rows-is, record-is) at p);
+          answers = ap Accepted (given-accepted call z) ∙ ap (answerTo r) (sym none);
+          puts = rw none (rw (rows-is, given-accepted call z) at p);
         }
 
 -- ---- the text of a line
@@ -183,16 +161,16 @@ module _ {line array lent left : List ℕ} {reading : Reading} {given : Printed}
         leaves = rw fits (rw whole at (p .stands));
       }
 
--- what is given lies in the buffer
+-- ---- what is printed lies in the lent buffer
+
+within-room : (a : Answer) (n room : ℕ) → printedOf a n room .length ≤ room
+within-room a n room = by-room (leb n room) refl
+  where
+    by-room : (b : Bool) → leb n room ≡ b
+        → cond {A = Printed} b (record { answer = a; length = n }) (record { answer = NoRoom; length = 0 }) .length ≤ room
+    by-room true e = leb-true n room e
+    by-room false e = omega arith
+
 pub printed-within : {line lent left : List ℕ} {given : Printed} → Prints line lent given left
     → given .length ≤ length lent
-printed-within {lent = lent} p = rw (p .gives) (by-room _ (length (textOf (p .reading))))
-  where
-    by-room : (a : Answer) (n : ℕ) → printedOf a n (length lent) .length ≤ length lent
-    by-room a n = go (leb n (length lent)) refl
-      where
-        go : (b : Bool) → leb n (length lent) ≡ b
-            → cond {A = Printed} b (record { answer = a; length = n }) (record { answer = NoRoom; length = 0 }) .length
-            ≤ length lent
-        go true e = leb-true n (length lent) e
-        go false e = omega arith
+printed-within p = rw (p .gives) (within-room _ _ _)

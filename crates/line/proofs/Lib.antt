@@ -7,4 +7,5 @@ pub mod Rows
 pub mod Composed
 pub mod Example
 pub mod Answered
+pub mod Readback
 pub mod Unique

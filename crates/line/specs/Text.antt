@@ -1,14 +1,13 @@
 -- The text that answers a line, and what a call gives and leaves.
 use mathlib.Core.Path.{_≡_}
 use mathlib.Core.List.{List, [], _∷_, _++_, map}
-use Prim.Native.Nat.{ℕ, zero, suc, _+_, _*_, _/_, _%_, _≤_}
+use Prim.Native.Nat.{ℕ, zero, suc, _+_, _*_, _/_, _%_}
 use lib.Dec.{leb, ltb}
 use lib.ListN.{length, drop, replicate}
 use Rattle.codebook.specs.declared.Report.{Report}
 use Rattle.codebook.specs.Settings.{_⇒_∣_, isSetting, maskBytes}
 use Rattle.codebook.specs.Matrix.{matrix}
 use Rattle.codebook.specs.Refusals.{refusal}
-use Rattle.precoder.specs.declared.Record.{Record}
 use Rattle.precoder.specs.Answer.{P, recordOf, layer}
 use Rattle.line.specs.declared.Reading.{Reading}
 use Rattle.line.specs.declared.Reading.the-variants.{Read, Unreadable as Unread}

@@ -17,13 +17,6 @@ use Rattle.line.proofs.Composed.{ports-small, layers-small, scale-small
 use borrow.Author.Needs.{needs}
 use Rattle.line.proofs.answer_to.Statement.{statement}
 use Rattle.line.proofs.answer_to.Tie as tie
-use Rattle.line.proofs.answer_to.Reads as reads
-use Rattle.line.proofs.answer_to.Lts as lts
-use Rattle.codebook.proofs.mask_bytes.Reads as mask-bytes-reads
-use Rattle.line.proofs.text.accepted.Reads as accepted-reads
-use Rattle.line.proofs.text.refused.Reads as refused-reads
-use Rattle.line.proofs.text.rows.Reads as rows-reads
-use Rattle.precoder.proofs.phases.Reads as phases-reads
 
 few : (c : tie.After-mask-bytes) → c .mask-bytes .result ≤ 32
 few c = let r = c .before .before .args .r in bytes-few (r .n1) (r .n2) (c .mask-bytes .ensures)

@@ -3,10 +3,6 @@ use mathlib.Core.Path.{refl}
 use borrow.Author.Needs.{needs}
 use Rattle.line.proofs.compose.Statement.{statement}
 use Rattle.line.proofs.compose.Tie as tie
-use Rattle.line.proofs.compose.Reads as reads
-use Rattle.line.proofs.compose.Lts as lts
-use Rattle.line.proofs.answer_to.Reads as answer-to-reads
-use Rattle.line.proofs.text.unreadable.Reads as unreadable-reads
 
 enum-known-reading : tie.Need-enum-known-reading
 enum-known-reading c = search needs

@@ -1,6 +1,6 @@
 -- `print` meets its contract: the text is composed in an array that is long enough for any, and is copied where it fits.
 -- Assumes nothing.
-use mathlib.Core.Path.{_≡_, sym}
+use mathlib.Core.Path.{sym}
 use Prim.Native.Nat.{_≤_}
 use native.Mathlib.Omega.{arith}
 use lib.ListN.{length, replicate}
@@ -11,11 +11,6 @@ use Rattle.line.proofs.Composed.{prints-nothing, prints-text}
 use borrow.Author.Needs.{needs}
 use Rattle.line.proofs.print.Statement.{statement}
 use Rattle.line.proofs.print.Tie as tie
-use Rattle.line.proofs.print.Reads as reads
-use Rattle.line.proofs.print.Lts as lts
-use Rattle.line.proofs.compose.Reads as compose-reads
-use Rattle.line.proofs.read.Reads as read-reads
-use Rattle.line.proofs.text.put.Reads as put-reads
 
 slice-aggregate-compose : tie.Need-slice-aggregate-compose
 slice-aggregate-compose c = search needs

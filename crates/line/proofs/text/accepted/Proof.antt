@@ -4,17 +4,13 @@ use Prim.Native.Nat.{ℕ, _+_, _-_, _≤_}
 use native.Mathlib.Omega.{arith}
 use lib.ListN.{length}
 use borrow.Rule.Slice.PartMut.{putMid}
-use Rattle.line.specs.Form.{newline, space}
+use Rattle.line.specs.Form.{space}
 use Rattle.line.specs.Text.{written}
 use Rattle.line.proofs.Puts.{Stands, stands-room, stands-then}
 use Rattle.line.proofs.Rows.{ended-few, head-accepted}
 use borrow.Author.Needs.{needs}
 use Rattle.line.proofs.text.accepted.Statement.{statement}
 use Rattle.line.proofs.text.accepted.Tie as tie
-use Rattle.line.proofs.text.accepted.Reads as reads
-use Rattle.line.proofs.text.accepted.Lts as lts
-use Rattle.line.proofs.text.ended.Reads as ended-reads
-use Rattle.line.proofs.text.put.Reads as put-reads
 
 abbrev start : tie.After-put → tie.Start
 start c = c .before .before .before .before
@@ -35,8 +31,8 @@ left c =
 second : (c : tie.After-ended)
     → let p = put-of c in
     let a = start p .args in
-    Stands ((111 ∷ 107 ∷ 32 ∷ []) ++ (written (a .a .ports) ++ space ∷ [])) (a .out .now) (p .put .result + c .ended .result)
-    (left c)
+    Stands ((111 ∷ 107 ∷ 32 ∷ []) ++ (written (a .a .ports) ++ space ∷ [])) (a .out .now)
+    (p .put .result + c .ended .result) (left c)
 second c = stands-then (first (put-of c)) (record { puts = c .ended .ensures; kept = c .ended .kept .0 })
 
 abbrev ended-of : tie.After-ended2 → tie.After-ended

@@ -8,8 +8,6 @@ use Rattle.line.proofs.Puts.{puts-stores}
 use Rattle.line.proofs.Rows.{written-one, written-two, written-three}
 use Rattle.line.proofs.text.decimal.Statement.{statement}
 use Rattle.line.proofs.text.decimal.Tie as tie
-use Rattle.line.proofs.text.decimal.Reads as reads
-use Rattle.line.proofs.text.decimal.Lts as lts
 
 cast-out : tie.Need-cast-out
 cast-out c = search needs

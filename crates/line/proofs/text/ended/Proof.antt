@@ -7,9 +7,6 @@ use Rattle.line.proofs.Puts.{puts-next}
 use Rattle.line.proofs.Rows.{written-few}
 use Rattle.line.proofs.text.ended.Statement.{statement}
 use Rattle.line.proofs.text.ended.Tie as tie
-use Rattle.line.proofs.text.ended.Reads as reads
-use Rattle.line.proofs.text.ended.Lts as lts
-use Rattle.line.proofs.text.decimal.Reads as decimal-reads
 
 few : (c : tie.After-decimal) → c .decimal .result ≤ 3
 few c = omega (arith, c .decimal .ensures .long, written-few (c .before .before .before .args .n))

@@ -7,8 +7,6 @@ use lib.ListN.{length, take, drop, length-set}
 use Rattle.precoder.proofs.Written.{stored, stored-all}
 use Rattle.line.proofs.text.put.Statement.{statement}
 use Rattle.line.proofs.text.put.Tie as tie
-use Rattle.line.proofs.text.put.Reads as reads
-use Rattle.line.proofs.text.put.Lts as lts
 
 abbrev Inv-loop : tie.InvT-loop
 Inv-loop out₀ given n i₀ out i = (i ≤ length given) × (out ≡ take i given ++ drop i out₀) × (length out ≡ length out₀)

@@ -6,10 +6,6 @@ use Rattle.line.proofs.Rows.{ended-few, head-refused}
 use borrow.Author.Needs.{needs}
 use Rattle.line.proofs.text.refused.Statement.{statement}
 use Rattle.line.proofs.text.refused.Tie as tie
-use Rattle.line.proofs.text.refused.Reads as reads
-use Rattle.line.proofs.text.refused.Lts as lts
-use Rattle.line.proofs.text.ended.Reads as ended-reads
-use Rattle.line.proofs.text.put.Reads as put-reads
 
 slice-aggregate-put : tie.Need-slice-aggregate-put
 slice-aggregate-put c = search needs

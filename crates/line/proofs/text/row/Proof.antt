@@ -1,7 +1,7 @@
 -- `text::row` meets its contract: each turn has one number more written after those that stand, and what follows it.
 -- Assumes nothing.
 use mathlib.Core.Path.{_≡_}
-use Prim.Native.Nat.{_+_, _-_, _*_, _≤_}
+use Prim.Native.Nat.{_-_, _*_, _≤_}
 use native.Mathlib.Omega.{arith}
 use lib.ListN.{length}
 use borrow.Author.Needs.{needs}
@@ -9,10 +9,6 @@ use Rattle.line.proofs.Puts.{Stands, stands-nothing, stands-room, stand
 use Rattle.line.proofs.Rows.{rowBegun, row-nothing, row-next, row-all, ended-few}
 use Rattle.line.proofs.text.row.Statement.{statement}
 use Rattle.line.proofs.text.row.Tie as tie
-use Rattle.line.proofs.text.row.Reads as reads
-use Rattle.line.proofs.text.row.Lts as lts
-use Rattle.line.proofs.numbers.ending.Reads as ending-reads
-use Rattle.line.proofs.text.ended.Reads as ended-reads
 
 abbrev Inv-loop : tie.InvT-loop
 Inv-loop out₀ xs n at₀ i₀ out at i =

@@ -13,9 +13,6 @@ use Rattle.line.proofs.Puts.{Stands, stands-nothing, stands-room, stand
 use Rattle.line.proofs.Rows.{row-few, rows-nothing, rows-next}
 use Rattle.line.proofs.text.rows.Statement.{statement}
 use Rattle.line.proofs.text.rows.Tie as tie
-use Rattle.line.proofs.text.rows.Reads as reads
-use Rattle.line.proofs.text.rows.Lts as lts
-use Rattle.line.proofs.text.row.Reads as row-reads
 
 abbrev Inv-loop : tie.InvT-loop
 Inv-loop out₀ phases p v at₀ from₀ j₀ out at from j =
@@ -49,7 +46,8 @@ part-few c = simp length-take (omega arith)
 within : (c : tie.In-loop Inv-loop μ-loop) → let a = c .before .before .before .before .args in
     c .before .loop .from + a .p ≤ a .v * a .p
 within c =
-    omega (arith, mul-le-mul-right (c .before .before .before .before .args .p) (c .loop-test .taken), c .before .loop .inv .1)
+    let p = c .before .before .before .before .args .p in
+    omega (arith, mul-le-mul-right p (c .loop-test .taken), c .before .loop .inv .1)
 
 add-to : tie.Need-add-to Inv-loop μ-loop
 add-to c = omega (arith, within c, c .before .before .before .before .pre)

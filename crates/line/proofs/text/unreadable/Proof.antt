@@ -3,9 +3,6 @@ use Rattle.line.proofs.Rows.{head-unreadable}
 use borrow.Author.Needs.{needs}
 use Rattle.line.proofs.text.unreadable.Statement.{statement}
 use Rattle.line.proofs.text.unreadable.Tie as tie
-use Rattle.line.proofs.text.unreadable.Reads as reads
-use Rattle.line.proofs.text.unreadable.Lts as lts
-use Rattle.line.proofs.text.put.Reads as put-reads
 
 slice-aggregate-put : tie.Need-slice-aggregate-put
 slice-aggregate-put c = search needs
