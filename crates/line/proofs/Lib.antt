@@ -8,4 +8,5 @@ pub mod Composed
 pub mod Example
 pub mod Answered
 pub mod Readback
+pub mod Longest
 pub mod Unique

@@ -6,7 +6,7 @@ use native.Mathlib.Nat.{not-suc-le-zero, le-of-suc-le-suc}
 use native.Mathlib.Numerals.{add-one}
 use native.Mathlib.Omega.{arith}
 use lib.Dec.{ltb, lit≤}
-use lib.ListN.{length, getD, length-append, length-map, List·getD-map}
+use lib.ListN.{length, getD, length-append, length-take, length-map, List·getD-map}
 use borrow.Author.Tests.{lt-ltb, le-ltb}
 use Rattle.codebook.proofs.Booleans.{cond-both}
 use Rattle.precoder.specs.declared.Record.{Record}
@@ -107,6 +107,14 @@ module _ (p : ℕ) (xs : List ℕ) where
   pub rows-next : (j : ℕ) → rows (j + 1) p xs ≡ rows j p xs ++ row (layer p j xs)
   unfolding rows
   rows-next j = rw add-one
+
+  -- which have p numbers at most
+  pub rows-few : (n : ℕ) → length (rows n p xs) ≤ 4 * (n * p)
+  unfolding rows
+  rows-few zero = omega arith
+  rows-few (suc n) =
+      let short : length (layer p n xs) ≤ p = simp length-take (omega arith) in
+      simp length-append (omega (arith, rows-few n, row-few (layer p n xs)))
 
 -- ---- the first line
 

@@ -6,6 +6,7 @@ use Prim.Native.Nat.{_+_, _-_, _≤_}
 use native.Mathlib.Omega.{arith}
 use lib.ListN.{length, replicate, length-take}
 use borrow.Rule.Slice.PartMut.{putMid}
+use borrow.Author.Needs.{needs}
 use Rattle.codebook.specs.Matrix.{matrix}
 use Rattle.precoder.specs.Answer.{Answers}
 use Rattle.line.specs.declared.Answer.the-variants.{Accepted}
@@ -14,7 +15,6 @@ use Rattle.line.proofs.Puts.{Stands, stands-room, stands-then, stands-w
 use Rattle.line.proofs.Rows.{head-few}
 use Rattle.line.proofs.Composed.{bytes-few, bytes-full, number-few, composed-refused, composed-accepted}
 use Rattle.line.proofs.Composed.{ports-small, layers-small, scale-small, entries-small, entries-within}
-use borrow.Author.Needs.{needs}
 use Rattle.line.proofs.answer_to.Statement.{statement}
 use Rattle.line.proofs.answer_to.Tie as tie
 

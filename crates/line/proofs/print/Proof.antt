@@ -5,10 +5,10 @@ use Prim.Native.Nat.{_≤_}
 use native.Mathlib.Omega.{arith}
 use lib.ListN.{length, replicate}
 use lib.Seq.{length-take-le}
+use borrow.Author.Needs.{needs}
 use Rattle.line.specs.Text.{longest, textOf}
 use Rattle.line.proofs.Puts.{Stands, stands-within}
 use Rattle.line.proofs.Composed.{prints-nothing, prints-text}
-use borrow.Author.Needs.{needs}
 use Rattle.line.proofs.print.Statement.{statement}
 use Rattle.line.proofs.print.Tie as tie
 

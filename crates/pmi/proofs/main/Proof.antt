@@ -5,8 +5,8 @@ use Prim.Native.Nat.{_≤_}
 use native.Mathlib.Omega.{arith}
 use lib.ListN.{length}
 use lib.Seq.{length-take-le}
-use Rattle.line.proofs.Composed.{printed-within}
 use borrow.Author.Needs.{needs}
+use Rattle.line.proofs.Composed.{printed-within}
 use Rattle.pmi.proofs.main.Statement.{statement}
 use Rattle.pmi.proofs.main.Tie as tie
 

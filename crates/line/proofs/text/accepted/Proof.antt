@@ -4,11 +4,11 @@ use Prim.Native.Nat.{ℕ, _+_, _-_, _≤_}
 use native.Mathlib.Omega.{arith}
 use lib.ListN.{length}
 use borrow.Rule.Slice.PartMut.{putMid}
+use borrow.Author.Needs.{needs}
 use Rattle.line.specs.Form.{space}
 use Rattle.line.specs.Text.{written}
 use Rattle.line.proofs.Puts.{Stands, stands-room, stands-then}
 use Rattle.line.proofs.Rows.{ended-few, head-accepted}
-use borrow.Author.Needs.{needs}
 use Rattle.line.proofs.text.accepted.Statement.{statement}
 use Rattle.line.proofs.text.accepted.Tie as tie
 

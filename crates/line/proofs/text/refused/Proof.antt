@@ -1,9 +1,9 @@
 -- `text::refused` meets its contract: the word stands, and then the number. Assumes nothing.
 use Prim.Native.Nat.{_≤_}
 use native.Mathlib.Omega.{arith}
+use borrow.Author.Needs.{needs}
 use Rattle.line.proofs.Puts.{stands-then}
 use Rattle.line.proofs.Rows.{ended-few, head-refused}
-use borrow.Author.Needs.{needs}
 use Rattle.line.proofs.text.refused.Statement.{statement}
 use Rattle.line.proofs.text.refused.Tie as tie
 

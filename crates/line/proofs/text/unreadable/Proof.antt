@@ -1,6 +1,6 @@
 -- `text::unreadable` meets its contract: its bytes are the word, and a newline. Assumes nothing.
-use Rattle.line.proofs.Rows.{head-unreadable}
 use borrow.Author.Needs.{needs}
+use Rattle.line.proofs.Rows.{head-unreadable}
 use Rattle.line.proofs.text.unreadable.Statement.{statement}
 use Rattle.line.proofs.text.unreadable.Tie as tie
 
