@@ -1,4 +1,5 @@
--- The line of the example, read by the definitions, and lines that differ from it in one byte. Assumes nothing.
+-- The line of the example, read by the definitions, and its text; and lines that differ from it in one byte.
+-- Assumes nothing.
 use mathlib.Core.Path.{_≡_, refl}
 use mathlib.Core.List.{List, [], _∷_, _++_}
 use Prim.Native.Nat.{ℕ}

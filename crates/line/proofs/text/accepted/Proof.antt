@@ -15,9 +15,12 @@ use Rattle.line.proofs.text.accepted.Tie as tie
 abbrev start : tie.After-put → tie.Start
 start c = c .before .before .before .before
 
+-- `ok` and a space
+abbrev word : List ℕ
+word = 111 ∷ 107 ∷ 32 ∷ []
+
 -- what stands after the word, after P and after v
-first : (c : tie.After-put)
-    → Stands (111 ∷ 107 ∷ 32 ∷ []) (start c .args .out .now) (c .put .result) (c .put .last .0)
+first : (c : tie.After-put) → Stands word (start c .args .out .now) (c .put .result) (c .put .last .0)
 first c = record { puts = c .put .ensures; kept = c .put .kept .0 }
 
 abbrev put-of : tie.After-ended → tie.After-put
@@ -31,8 +34,7 @@ left c =
 second : (c : tie.After-ended)
     → let p = put-of c in
     let a = start p .args in
-    Stands ((111 ∷ 107 ∷ 32 ∷ []) ++ (written (a .a .ports) ++ space ∷ [])) (a .out .now)
-    (p .put .result + c .ended .result) (left c)
+    Stands (word ++ (written (a .a .ports) ++ space ∷ [])) (a .out .now) (p .put .result + c .ended .result) (left c)
 second c = stands-then (first (put-of c)) (record { puts = c .ended .ensures; kept = c .ended .kept .0 })
 
 abbrev ended-of : tie.After-ended2 → tie.After-ended
@@ -49,7 +51,7 @@ third : (c : tie.After-ended2)
     let p = put-of e in
     let a = start p .args in
     Stands
-    ((111 ∷ 107 ∷ 32 ∷ []) ++ (written (a .a .ports) ++ space ∷ []) ++ (written (a .a .layers) ++ space ∷ []))
+    (word ++ (written (a .a .ports) ++ space ∷ []) ++ (written (a .a .layers) ++ space ∷ []))
     (a .out .now)
     (p .put .result + e .ended .result + c .ended2 .result)
     (left-2 c)
