@@ -1,18 +1,18 @@
 -- Columns, block by block and entry by entry, and lent lists that they are written over. Assumes nothing.
 use mathlib.Core.Path.{_≡_, refl, sym, ap, ap₂, _∙_}
-use mathlib.Core.List.{List, [], _∷_, _++_, map, append-assoc}
-use Prim.Native.Nat.{ℕ, suc, _+_, _-_, _*_, _/_, _%_, _<_, _≤_, suc-le-suc}
+use mathlib.Core.List.{List, [], _∷_, _++_, map, append-nil, append-assoc}
+use Prim.Native.Nat.{ℕ, zero, suc, _+_, _-_, _*_, _/_, _%_, _<_, _≤_, suc-le-suc}
 use native.Mathlib.Nat.{mod-lt, add-mod-mod, mod-add-mod, div-add-mod', mul-le-mul-right, lt-of-mul-lt-mul-right}
 use native.Mathlib.Numerals.{add-one}
 use native.Mathlib.Omega.{arith}
-use lib.ListN.{length, take, drop, getD, length-map, List·getD-map}
-use lib.Seq.{take-at, take-all, take-suc, take-append-le, getD-take, length-take-le}
+use lib.ListN.{length, take, drop, replicate, getD, length-map, List·getD-map}
+use lib.Seq.{take-at, take-all, take-suc, getD-take, getD-drop, length-take-le}
 use Rattle.turn.specs.Phase.{turn, phase}
 use Rattle.turn.specs.Column.{steps, product, column}
 use Rattle.turn.proofs.Lists.{map-append, length-steps, length-product}
 use Rattle.turn.proofs.Entries.{steps-entry, column-entry}
-use Rattle.precoder.specs.Layer.{Reduced}
-use Rattle.precoder.proofs.Written.{lent-after}
+use Rattle.precoder.specs.Layer.{Reduced, Holds}
+use Rattle.precoder.proofs.Written.{take-over, lent-after}
 
 -- ---- phases
 
@@ -97,10 +97,6 @@ module _ (d : List ℕ) (w : ℕ) (h : w ≤ length d) where
       ∙ column-entry xs (take w d) q j k (omega (arith, length-take-le w d h))
       ∙ ap (λ (y : ℕ). phase (getD xs q 0 + y)) (getD-take w d j 0 l)
 
-  pub block-entry : (c i : ℕ) → i < w → getD (column (c ∷ []) (take w d)) i 0 ≡ phase (c + getD d i 0)
-  block-entry c i k =
-      ap (λ (j : ℕ). getD (column (c ∷ []) (take w d)) j 0) (omega arith) ∙ entry (c ∷ []) 0 i (omega arith) k
-
   -- each row after the first is the row before it, turned by the step
   pub row-before : (n s i : ℕ) → 1 ≤ w → w ≤ i → i < n * w
       → getD (column (steps n s) (take w d)) i 0 ≡ phase (s + getD (column (steps n s) (take w d)) (i - w) 0)
@@ -129,36 +125,69 @@ module _ (d : List ℕ) (w : ℕ) (h : w ≤ length d) where
   pub first-row : (n s : ℕ) → 1 ≤ n → Reduced (take w d) → take w (column (steps n s) (take w d)) ≡ take w d
   first-row n s k = first-block (steps n s) (omega (arith, length-steps n s)) (omega (arith, steps-entry n s 0 k))
 
-  -- q blocks, with nothing added to the first, written over d
-  module _ (co : List ℕ) (z : getD co 0 0 ≡ 0) (r : Reduced (take w d)) where
-    abbrev blocks : ℕ → List ℕ
-    blocks q = column (take q co) (take w d)
+-- ---- one block
 
-    length-blocks : (q : ℕ) → q ≤ length co → length (blocks q) ≡ q * w
-    length-blocks q k = length-column (take q co) q (length-take-le q co k)
+-- the list b, turned by c, has an entry for each of b
+pub turned-entry : (c : ℕ) (b : List ℕ) (i : ℕ) → i < length b → getD (column (c ∷ []) b) i 0 ≡ phase (c + getD b i 0)
+unfolding column product
+turned-entry c [] i h = absurd (omega arith)
+turned-entry c (y ∷ b) zero h = refl
+turned-entry c (y ∷ b) (suc i) h = turned-entry c b i (omega arith)
 
-    first-of : (q : ℕ) → 1 ≤ q → q ≤ length co → take w (blocks q) ≡ take w d
-    first-of q p k = first-block (take q co) (omega (arith, length-take-le q co k)) (getD-take q co 0 0 p ∙ z) r
+pub length-turned : (c : ℕ) (b : List ℕ) → length (column (c ∷ []) b) ≡ length b
+unfolding column product
+length-turned c [] = refl
+length-turned c (y ∷ b) = ap suc (length-turned c b)
 
-    pub one-block : 1 ≤ length co → blocks 1 ≡ take w d
-    one-block k = sym (take-all w (blocks 1) (omega (arith, length-blocks 1 k))) ∙ first-of 1 (omega arith) k
+take-turned : (c w : ℕ) (b : List ℕ) → take w (column (c ∷ []) b) ≡ column (c ∷ []) (take w b)
+unfolding column product
+take-turned c zero b = refl
+take-turned c (suc w) [] = refl
+take-turned c (suc w) (y ∷ b) = ap {B = List ℕ} (λ l. phase (c + y) ∷ l) (take-turned c w b)
 
-    module _ {o : List ℕ} (q at : ℕ) (p : 1 ≤ q) (k : q ≤ length co) (e : o ≡ blocks q ++ drop at d) where
-      pub first-kept : take w o ≡ take w d
-      first-kept =
-          let one : w ≤ length (blocks q) = omega (arith, length-blocks q k, mul-le-mul-right w p) in
-          rw e (take-append-le w (blocks q) (drop at d) one ∙ first-of q p k)
+-- with nothing added, a reduced list stays
+unturned : (c : ℕ) (b : List ℕ) → c ≡ 0 → Reduced b → column (c ∷ []) b ≡ b
+unfolding column product
+unturned c b e r = column-cons c [] b ∙ append-nil _ ∙ block-same c b e r
 
-      pub next-block : {y : List ℕ} → q < length co → at ≡ q * w
-          → y ≡ take at o ++ column (getD co q 0 ∷ []) (take w o) ++ drop (at + w) o → y ≡ blocks (q + 1) ++ drop (at + w) d
-      next-block l f g =
-          let long : length (blocks q) ≡ at = length-blocks q k ∙ sym f in
-          let front : take at o ≡ blocks q = ap (take at) e ∙ take-at (blocks q) (drop at d) at long in
-          let rest : drop (at + w) o ≡ drop (at + w) d = lent-after (blocks q) d at (at + w) e long (omega arith) in
-          let more : take (q + 1) co ≡ take q co ++ (getD co q 0 ∷ []) = rw add-one (take-suc co q 0 l) in
-          g ∙ rw (front, first-kept, rest, more, column-append)
+-- ---- a column of the first w of a list b, block by block
+
+module _ (co b : List ℕ) (w : ℕ) (h : w ≤ length b) where
+  abbrev blocks : ℕ → List ℕ
+  blocks q = column (take q co) (take w b)
+
+  -- the first block is written as it is
+  pub first-block-written : {o : List ℕ} (p t : List ℕ) (at : ℕ) → o ≡ p ++ b ++ t → length p ≡ at → 1 ≤ length co
+      → getD co 0 0 ≡ 0 → Reduced b → take (at + w) o ≡ p ++ blocks 1
+  first-block-written p t at e l k z r =
+      let one : take 1 co ≡ getD co 0 0 ∷ [] = take-suc co 0 0 k in
+      let same : blocks 1 ≡ take w b =
+          rw one (sym (take-turned (getD co 0 0) w b) ∙ ap (take w) (unturned (getD co 0 0) b z r)) in
+      take-over p b t at w e l h ∙ ap (λ (l : List ℕ). p ++ l) (sym same)
+
+  -- and each other block turned
+  pub next-block-written : (o : List ℕ) {y : List ℕ} (p t : List ℕ) (to q : ℕ) → take to o ≡ p ++ blocks q → to ≤ length o
+      → q < length co → y ≡ take to o ++ column (getD co q 0 ∷ []) b ++ t → take (to + w) y ≡ p ++ blocks (q + 1)
+  next-block-written o p t to q e k l g =
+      let more : take (q + 1) co ≡ take q co ++ (getD co q 0 ∷ []) = rw add-one (take-suc co q 0 l) in
+      take-over (take to o) (column (getD co q 0 ∷ []) b) t to w g (length-take-le to o k)
+          (omega (arith, length-turned (getD co q 0) b))
+      ∙ rw (e, take-turned, more, column-append) (append-assoc p (blocks q) _)
+
+-- ---- a list that holds phases in front
+
+pub below-append : (xs ys : List ℕ) → ((i : ℕ) → getD xs i 0 < turn) → ((i : ℕ) → getD ys i 0 < turn)
+    → (i : ℕ) → getD (xs ++ ys) i 0 < turn
+below-append [] ys p q i = q i
+below-append (x ∷ xs) ys p q zero = p 0
+below-append (x ∷ xs) ys p q (suc i) = below-append xs ys (λ j. p (suc j)) q i
 
 -- ---- a lent list d, the first k written over by the phases of ys
+
+zero-at : (n i : ℕ) → _≡_ {A = ℕ} (getD (replicate n 0) i 0) 0
+zero-at zero i = refl
+zero-at (suc n) zero = refl
+zero-at (suc n) (suc i) = zero-at n i
 
 module _ {o : List ℕ} (ys d : List ℕ) (k : ℕ) (l : length ys ≡ k) (e : o ≡ map phase ys ++ drop k d) where
   front : take k o ≡ map phase ys
@@ -166,6 +195,17 @@ module _ {o : List ℕ} (ys d : List ℕ) (k : ℕ) (l : length ys ≡ k) (e : o
 
   pub front-reduced : Reduced (take k o)
   front-reduced = rw front (record { below = λ i h. phases-below ys i })
+
+  -- of sixteen zeros, that is
+  pub phases-held : d ≡ replicate 16 0 → length o ≡ 16 → Holds ys o
+  phases-held z f = record {
+    places = f;
+    reduced = record { below = λ i h. rw e (below-append (map phase ys) (drop k d) (phases-below ys) zeros i) };
+    front = rw l front;
+  }
+    where
+      zeros : (i : ℕ) → getD (drop k d) i 0 < turn
+      zeros i = rw (z, getD-drop {A = ℕ} k (replicate 16 0) i 0, zero-at 16 (k + i)) (omega arith)
 
   -- a column of these, written over that
   pub column-over : {p : List ℕ} (xs : List ℕ) (m : ℕ) → k ≤ m → p ≡ column xs (take k o) ++ drop m o

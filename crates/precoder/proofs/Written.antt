@@ -1,13 +1,14 @@
 -- A lent list d over which a list s of n elements is written, from the front or from a place on: what stands there after
 -- i stores. Over any type of element. Assumes nothing.
-use mathlib.Core.Path.{_≡_, ap, _∙_}
+use mathlib.Core.Path.{_≡_, sym, ap, _∙_}
 use mathlib.Core.List.{List, [], _++_, append-nil, append-assoc}
 use Prim.Native.Nat.{ℕ, _+_, _-_, _<_, _≤_}
 use native.Mathlib.Nat.{zero-add}
 use native.Mathlib.Numerals.{add-one}
 use native.Mathlib.Omega.{arith}
 use lib.ListN.{length, take, drop, set, getD, length-append, length-drop, drop-of-length-le, List·getD-append}
-use lib.Seq.{paste, paste-suc, length-take-le, take-at, take-all, getD-take, drop-at, drop-append-add, drop-drop}
+use lib.Seq.{paste, paste-suc, length-take-le, take-at, take-all, take-append-le, take-append-add, getD-take}
+use lib.Seq.{drop-at, drop-append-add, drop-drop}
 use borrow.Rule.Slice.PartMut.{putMid}
 
 module _ {A : Type 0} where
@@ -43,6 +44,17 @@ module _ {A : Type 0} where
       let k : m ≡ length s + (m - n) = omega arith in
       let k′ : n + (m - n) ≡ m = omega arith in
       ap (λ (x : ℕ). drop x o) k ∙ rw q (drop-append-add s (drop n d) (m - n)) ∙ drop-drop (m - n) n d ∙ rw k′
+
+  -- what stands in front of s
+  pub front-kept : {o : List A} (p s t : List A) (n : ℕ) → o ≡ p ++ s ++ t → length p ≡ n → take n o ≡ p
+  front-kept p s t n q e = ap (take n) (q ∙ append-assoc p s t) ∙ take-at p (s ++ t) n e
+
+  -- s stands after p, and w of it are read
+  pub take-over : {o : List A} (p s t : List A) (n w : ℕ) → o ≡ p ++ s ++ t → length p ≡ n → w ≤ length s
+      → take (n + w) o ≡ p ++ take w s
+  take-over {o} p s t n w q e h =
+      let long : length p + w ≤ length (p ++ s) = rw length-append (omega arith) in
+      ap (λ (m : ℕ). take (m + w) o) (sym e) ∙ rw q (take-append-le (length p + w) (p ++ s) t long) ∙ take-append-add p s w
 
   -- ---- a callee that was lent `&mut o[n..]` has written x over the front of that
 

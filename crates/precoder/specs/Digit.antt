@@ -7,10 +7,6 @@ use Rattle.codebook.specs.declared.Report.{Report}
 use Rattle.codebook.specs.Columns.{Bracket, _⨾_, beam, halfLength, beams}
 use Rattle.codebook.specs.Matrix.{Layer, fOf, tOf, addedOf, whole, quartered, blocks}
 
--- the beam at a place, with as many co-phases as the report's columns have blocks
-unfoldable pub onBeam : Report → ℕ → List ℕ → Layer
-onBeam r place co = record { beam = getD (beams r) place (beam 0 0); co = take (blocks r) co }
-
 -- a digit is 4 times the place of a beam, and what is added
 abbrev pub bracket : ℕ → Bracket
 bracket digit = digit / 4 ⨾ digit % 4
