@@ -3,8 +3,8 @@
 //
 //     random COUNT SEED
 //
-// COUNT is the number of calls of each function, SEED where the generator starts. The first call that fails a check is
-// printed for each check. The last line is `N passed, M failed`; the exit status is 0 only if M is 0.
+// COUNT is the number of requests for each function, SEED where the generator starts. For each check the first request
+// that fails it is printed. The last line is `N passed, M failed`; the exit status is 0 only if M is 0.
 // Freestanding: of the C library only printf, memcpy and memcmp.
 #include <stdio.h>
 #include "aspenflick.h"
@@ -123,7 +123,7 @@ static int same_guards(const loan *a, const loan *b, extent e) {
 }
 
 // Fills a loan with random bytes. Guards hold nothing that the function answers, so that no number written there goes
-// unseen: no phase is 192 or above, and the upper byte of a weight is at most 64 or at least 191.
+// unseen: no phase is 192 or above, and the upper byte of a weight is at most 64 or at least 192.
 static void fill(loan *l, extent e, int function) {
     uint8_t *at = l->room + e.start;
     for (size_t i = 0; i < whole(e); i += sizeof(uint64_t)) {
@@ -169,55 +169,64 @@ static const char *const check_names[CHECKS] = {
     [BASELINE_OUT] = "the buffer is that of the second implementation",
 };
 
-// Faults, seeded into about one call in 16 where they are possible.
+// Faults, seeded into some calls, each with the check that has to see it.
 enum {
-    NONE, BYTE_ON_REFUSAL, PORTS_ON_REFUSAL, ORDER, WRONG_SCALE, PAST_ANSWER, NOT_WRITTEN, OTHER_ENTRY, OUT_BEFORE, OUT_AFTER,
-    BEAMS_BEFORE, BEAMS_AFTER, BEAMS_BYTE, FAULTS
+    NONE, UNKNOWN_REFUSAL, PORTS_ON_REFUSAL, BYTE_ON_REFUSAL, WRONG_SCALE, NO_ENTRY, PAST_ANSWER, NOT_WRITTEN, BEFORE_OUT,
+    BEHIND_OUT, BEFORE_BEAMS, BEHIND_BEAMS, BEAMS_BYTE, OTHER_ORDER, OTHER_ENTRY, FAULTS
 };
-static const char *const fault_names[FAULTS] = {
-    [BYTE_ON_REFUSAL] = "a byte of the buffer changed on a refusal",
-    [PORTS_ON_REFUSAL] = "the ports given on a refusal",
-    [ORDER] = "refusal 11 before 10",
-    [WRONG_SCALE] = "the scale less by P",
-    [PAST_ANSWER] = "the byte behind the answer changed",
-    [NOT_WRITTEN] = "one entry of the answer not written",
-    [OTHER_ENTRY] = "one entry of the answer replaced by the first",
-    [OUT_BEFORE] = "the byte before the buffer changed",
-    [OUT_AFTER] = "the byte behind the buffer changed",
-    [BEAMS_BEFORE] = "the byte before the mask changed",
-    [BEAMS_AFTER] = "the byte behind the mask changed",
-    [BEAMS_BYTE] = "a byte of the mask changed",
+static const struct { const char *name; int seen_by; } faults[FAULTS] = {
+    [UNKNOWN_REFUSAL] = {"12 for the refusal 11", KNOWN},
+    [PORTS_ON_REFUSAL] = {"ports given on a refusal", ZEROS},
+    [BYTE_ON_REFUSAL] = {"a byte of the buffer changed on a refusal", AS_LENT},
+    [WRONG_SCALE] = {"the scale less by P", RECORD},
+    [NO_ENTRY] = {"an entry with all bits ones", LEGAL},
+    [PAST_ANSWER] = {"the byte behind the answer changed", BEHIND},
+    [NOT_WRITTEN] = {"an entry not written", REPEATED},
+    [BEFORE_OUT] = {"the byte before the buffer changed", OUT_GUARDS},
+    [BEHIND_OUT] = {"the byte behind the buffer changed", OUT_GUARDS},
+    [BEFORE_BEAMS] = {"the byte before the mask changed", BEAMS_GUARDS},
+    [BEHIND_BEAMS] = {"the byte behind the mask changed", BEAMS_GUARDS},
+    [BEAMS_BYTE] = {"a byte of the mask changed", BEAMS},
+    [OTHER_ORDER] = {"11 before 10", BASELINE_RECORD},
+    [OTHER_ENTRY] = {"the first entry in place of another", BASELINE_OUT},
 };
+enum { FAULTY = 20000 };
 
 static loan beams, beams_lent, out, out_lent, out_again, out_again_lent, out_baseline;
-static uint64_t outcomes[FUNCTIONS][REFUSALS + 1], failures[FUNCTIONS][CHECKS];
-
-static size_t width_of(int function) { return function == WEIGHTS ? sizeof(int16_t) : sizeof(uint8_t); }
-
-// Spoils what a call has given.
-static aspenflick_record spoil(int fault, int function, const request *q, extent b, extent o, aspenflick_record record) {
-    size_t width = width_of(function), entry = function == WEIGHTS ? 2 * width : width, answer = entry * record.scale;
-    uint32_t ports = 2 * q->report.n1 * q->report.n2, scale = q->report.v * ports, which = below(record.scale);
-    uint8_t *bytes = inner(&out, o), *mask = inner(&beams, b);
-    if (fault == BYTE_ON_REFUSAL && record.refusal && o.len) bytes[below((uint32_t)o.len)] ^= 1;
-    if (fault == PORTS_ON_REFUSAL && record.refusal) record.ports = 4;
-    if (fault == ORDER && record.refusal == 10 && o.len < entry * scale) record.refusal = 11;
-    if (fault == WRONG_SCALE && !record.refusal) record.scale -= record.ports;
-    if (fault == PAST_ANSWER && !record.refusal && answer < o.len) bytes[answer] ^= 1;
-    if (fault == NOT_WRITTEN && !record.refusal) memcpy(bytes + which * entry, inner(&out_lent, o) + which * entry, entry);
-    if (fault == OTHER_ENTRY && !record.refusal) memcpy(bytes + which * entry, bytes, entry);
-    if (fault == OUT_BEFORE) bytes[-1] ^= 1;
-    if (fault == OUT_AFTER) bytes[o.len] ^= 1;
-    if (fault == BEAMS_BEFORE) mask[-1] ^= 1;
-    if (fault == BEAMS_AFTER) mask[b.len] ^= 1;
-    if (fault == BEAMS_BYTE && b.len) mask[below((uint32_t)b.len)] ^= 1;
-    return record;
-}
+static unsigned long long outcomes[FUNCTIONS][REFUSALS + 1], failures[FUNCTIONS][CHECKS];
 
 static aspenflick_record call(int function, const request *q, const uint8_t *mask, uint8_t *bytes) {
     return function == WEIGHTS
                ? aspenflick_weights(q->report, mask, q->beams_len, q->ranks, (int16_t *)(void *)bytes, q->out_len)
                : aspenflick_phases(q->report, mask, q->beams_len, q->ranks, bytes, q->out_len);
+}
+
+// Spoils what a call has given, as a library with that fault would: twice alike. `choice` picks the byte or the entry.
+static aspenflick_record spoil(int fault, uint32_t choice, int function, const request *q, uint8_t *mask, uint8_t *bytes,
+                               const uint8_t *bytes_lent, aspenflick_record record) {
+    size_t entry = function == WEIGHTS ? 2 * sizeof(int16_t) : sizeof(uint8_t), scale = record.scale;
+    size_t len = function == WEIGHTS ? sizeof(int16_t) * q->out_len : q->out_len, beams_len = q->beams_len;
+    const uint8_t *mask_lent = beams_lent.room + (mask - beams.room);
+    if (record.refusal) {
+        size_t needed = entry * 2 * q->report.n1 * q->report.n2 * q->report.v;
+        if (fault == UNKNOWN_REFUSAL && record.refusal == 11) record.refusal = 12;
+        if (fault == PORTS_ON_REFUSAL) record.ports = 4;
+        if (fault == BYTE_ON_REFUSAL && len) bytes[choice % len] ^= 1;
+        if (fault == OTHER_ORDER && record.refusal == 10 && len < needed) record.refusal = 11;
+    } else {
+        uint8_t *some = bytes + choice % scale * entry;
+        if (fault == WRONG_SCALE) record.scale -= record.ports;
+        if (fault == NO_ENTRY) for (size_t i = 0; i < entry; i++) some[i] = 255;
+        if (fault == PAST_ANSWER && scale * entry < len) bytes[scale * entry] ^= 1;
+        if (fault == NOT_WRITTEN) memcpy(some, bytes_lent + (some - bytes), entry);
+        if (fault == OTHER_ENTRY) memcpy(some, bytes, entry);
+    }
+    if (fault == BEFORE_OUT) bytes[-1] ^= 1;
+    if (fault == BEHIND_OUT) bytes[len] ^= 1;
+    if (fault == BEFORE_BEAMS) mask[-1] = mask_lent[-1] ^ 1;
+    if (fault == BEHIND_BEAMS) mask[beams_len] = mask_lent[beams_len] ^ 1;
+    if (fault == BEAMS_BYTE && beams_len) mask[choice % beams_len] = mask_lent[choice % beams_len] ^ 1;
+    return record;
 }
 
 static aspenflick_record call_baseline(int function, const request *q, const uint8_t *mask, uint8_t *bytes) {
@@ -247,10 +256,11 @@ static int legal(int function, const uint8_t *bytes, size_t len) {
     return good;
 }
 
-// One request, whose outcome is counted. `fault` may be seeded; `number` is printed with a failure.
-static void try(int function, uint64_t number, int fault) {
+// One request: two calls and one of the second implementation. The fault is seeded into a quarter of them; then failures
+// are counted, but not printed.
+static void ask(int function, uint64_t number, int fault) {
     request q = any_request(function);
-    size_t width = width_of(function);
+    size_t width = function == WEIGHTS ? sizeof(int16_t) : sizeof(uint8_t);
     extent b = {below(PLACES), q.beams_len}, o = {width * below((uint32_t)(PLACES / width)), width * q.out_len};
     fill(&beams_lent, b, function);
     make_beams(inner(&beams_lent, b), b.len);
@@ -263,38 +273,42 @@ static void try(int function, uint64_t number, int fault) {
     for (size_t i = 0; i < o.len; i++) inner(&out_again_lent, o)[i] ^= 255;
     copy(&out_again, &out_again_lent, o);
 
-    aspenflick_record record = call(function, &q, inner(&beams, b), inner(&out, o));
-    if (fault && !below(16)) record = spoil(fault, function, &q, b, o, record);
-    aspenflick_record again = call(function, &q, inner(&beams, b), inner(&out_again, o));
+    uint8_t *mask = inner(&beams, b), *bytes = inner(&out, o), *bytes_again = inner(&out_again, o);
+    const uint8_t *bytes_lent = inner(&out_lent, o), *bytes_again_lent = inner(&out_again_lent, o);
+    aspenflick_record record = call(function, &q, mask, bytes), again = call(function, &q, mask, bytes_again);
     aspenflick_record baseline = call_baseline(function, &q, inner(&beams_lent, b), inner(&out_baseline, o));
+    if (fault && below(4) == 0) {
+        uint32_t choice = (uint32_t)draw();
+        record = spoil(fault, choice, function, &q, mask, bytes, bytes_lent, record);
+        again = spoil(fault, choice, function, &q, mask, bytes_again, bytes_again_lent, again);
+    }
 
     uint32_t ports = 2 * q.report.n1 * q.report.n2, scale = q.report.v * ports;
     int refused = record.refusal != 0;
     // Of an answer that is longer than the buffer no more can be looked at.
     size_t answer = refused ? 0 : width * (function == WEIGHTS ? 2 : 1) * (size_t)scale;
     if (answer > o.len) answer = o.len;
-    const uint8_t *bytes = inner(&out, o), *bytes_again = inner(&out_again, o);
     size_t rest = o.len - answer;
-    const int passed[CHECKS] = {
+    const int holds[CHECKS] = {
         [KNOWN] = record.refusal <= REFUSALS,
         [ZEROS] = !refused || !(record.ports | record.layers | record.scale),
-        [AS_LENT] = !refused || !memcmp(bytes, inner(&out_lent, o), o.len),
+        [AS_LENT] = !refused || !memcmp(bytes, bytes_lent, o.len),
         [RECORD] = refused || (record.ports == ports && record.layers == q.report.v && record.scale == scale),
         [LEGAL] = refused || legal(function, bytes, answer),
-        [BEHIND] = refused || !memcmp(bytes + answer, inner(&out_lent, o) + answer, rest),
+        [BEHIND] = refused || !memcmp(bytes + answer, bytes_lent + answer, rest),
         [REPEATED] = same_record(record, again) && !memcmp(bytes, bytes_again, answer) &&
-                     !memcmp(bytes_again + answer, inner(&out_again_lent, o) + answer, rest),
+                     !memcmp(bytes_again + answer, bytes_again_lent + answer, rest),
         [OUT_GUARDS] = same_guards(&out, &out_lent, o) && same_guards(&out_again, &out_lent, o),
         [BEAMS_GUARDS] = same_guards(&beams, &beams_lent, b),
-        [BEAMS] = !memcmp(inner(&beams, b), inner(&beams_lent, b), b.len),
+        [BEAMS] = !memcmp(mask, inner(&beams_lent, b), b.len),
         [BASELINE_RECORD] = same_record(record, baseline),
         [BASELINE_OUT] = !memcmp(bytes, inner(&out_baseline, o), o.len),
     };
     if (record.refusal <= REFUSALS) outcomes[function][record.refusal]++;
     for (int check = 0; check < CHECKS; check++) {
-        if (passed[check] || failures[function][check]++ || fault) continue;
+        if (holds[check] || failures[function][check]++ || fault) continue;
         const aspenflick_report r = q.report;
-        printf("%s: call %llu fails `%s`: N1=%u N2=%u mode=%u v=%u i11=%u i12=%u i13=%u i2=%u ranks=%u, %zu bytes of mask, "
+        printf("%s: request %llu fails `%s`: N1=%u N2=%u mode=%u v=%u i11=%u i12=%u i13=%u i2=%u ranks=%u, %zu bytes of mask, "
                "room for %zu: %u %u %u %u, the second implementation %u %u %u %u\n",
                function_names[function], (unsigned long long)number, check_names[check], r.n1, r.n2, r.mode, r.v, r.i11,
                r.i12, r.i13, r.i2, q.ranks, q.beams_len, q.out_len, record.refusal, record.ports, record.layers,
@@ -306,16 +320,17 @@ static void run(uint64_t count, int fault) {
     for (int function = 0; function < FUNCTIONS; function++) {
         for (int k = 0; k <= REFUSALS; k++) outcomes[function][k] = 0;
         for (int k = 0; k < CHECKS; k++) failures[function][k] = 0;
-        for (uint64_t number = 0; number < count; number++) try(function, number, fault);
+        for (uint64_t number = 0; number < count; number++) ask(function, number, fault);
     }
 }
 
 static uint32_t passed, failed;
 
-static const char *verdict(int good) {
-    if (good) passed++;
+// Counts a test, and gives what is printed of it.
+static const char *test(int holds) {
+    if (holds) passed++;
     else failed++;
-    return good ? "ok" : "FAILED";
+    return holds ? "" : " FAILED";
 }
 
 static uint64_t decimal(const char *text) {
@@ -333,30 +348,24 @@ int main(int arguments, char **argument) {
     state = decimal(argument[2]);
     run(count, NONE);
     for (int function = 0; function < FUNCTIONS; function++) {
-        const char *name = function_names[function];
-        for (int k = 0; k <= REFUSALS; k++) {
-            unsigned long long times = outcomes[function][k];
-            printf("%s: %s %d: %llu times: %s\n", name, k ? "refusal" : "accepted,", k, times, verdict(times > 0));
-        }
-        for (int check = 0; check < CHECKS; check++) {
-            unsigned long long times = failures[function][check];
-            printf("%s: %s: %llu of %llu not: %s\n", name, check_names[check], times, (unsigned long long)count,
-                   verdict(times == 0 && count > 0));
+        unsigned long long *times = outcomes[function], *broken = failures[function];
+        printf("%s: %llu requests, accepted %llu%s, by refusal", function_names[function], (unsigned long long)count, times[0],
+               test(times[0] > 0));
+        for (int k = 1; k <= REFUSALS; k++) printf("%s %d: %llu%s", k > 1 ? "," : "", k, times[k], test(times[k] > 0));
+        printf("\n");
+        for (int k = 0; k < CHECKS; k++) {
+            printf("%s: %s: all but %llu%s\n", function_names[function], check_names[k], broken[k], test(count && !broken[k]));
         }
     }
-    // Each fault is told from the others by the checks that see it.
     for (int fault = NONE + 1; fault < FAULTS; fault++) {
-        run(count / 100, fault);
+        int check = faults[fault].seen_by;
+        run(FAULTY, fault);
+        printf("seeded: %s: `%s` fails", faults[fault].name, check_names[check]);
         for (int function = 0; function < FUNCTIONS; function++) {
-            int seen = 0;
-            printf("%s: seeded fault, %s, fails", function_names[function], fault_names[fault]);
-            for (int check = 0; check < CHECKS; check++) {
-                if (!failures[function][check]) continue;
-                printf("%s `%s`", seen ? "," : "", check_names[check]);
-                seen = 1;
-            }
-            printf("%s: %s\n", seen ? "" : " nothing", verdict(seen));
+            unsigned long long times = failures[function][check];
+            printf("%s %llu times for %s%s", function ? "," : "", times, function_names[function], test(times > 0));
         }
+        printf("\n");
     }
     printf("%u passed, %u failed\n", passed, failed);
     return failed != 0;
