@@ -308,8 +308,8 @@ static void ask(int function, uint64_t number, int fault) {
     for (int check = 0; check < CHECKS; check++) {
         if (holds[check] || failures[function][check]++ || fault) continue;
         const aspenflick_report r = q.report;
-        printf("%s: request %llu fails `%s`: N1=%u N2=%u mode=%u v=%u i11=%u i12=%u i13=%u i2=%u ranks=%u, %zu bytes of mask, "
-               "room for %zu: %u %u %u %u, the second implementation %u %u %u %u\n",
+        printf("%s: request %llu fails `%s`: N1=%u N2=%u mode=%u v=%u i11=%u i12=%u i13=%u i2=%u ranks=%u, "
+               "%zu bytes of mask, room for %zu: %u %u %u %u, the second implementation %u %u %u %u\n",
                function_names[function], (unsigned long long)number, check_names[check], r.n1, r.n2, r.mode, r.v, r.i11,
                r.i12, r.i13, r.i2, q.ranks, q.beams_len, q.out_len, record.refusal, record.ports, record.layers,
                record.scale, baseline.refusal, baseline.ports, baseline.layers, baseline.scale);
@@ -349,12 +349,13 @@ int main(int arguments, char **argument) {
     run(count, NONE);
     for (int function = 0; function < FUNCTIONS; function++) {
         unsigned long long *times = outcomes[function], *broken = failures[function];
-        printf("%s: %llu requests, accepted %llu%s, by refusal", function_names[function], (unsigned long long)count, times[0],
+        const char *name = function_names[function];
+        printf("%s: %llu requests, accepted %llu%s, by refusal", name, (unsigned long long)count, times[0],
                test(times[0] > 0));
         for (int k = 1; k <= REFUSALS; k++) printf("%s %d: %llu%s", k > 1 ? "," : "", k, times[k], test(times[k] > 0));
         printf("\n");
         for (int k = 0; k < CHECKS; k++) {
-            printf("%s: %s: all but %llu%s\n", function_names[function], check_names[k], broken[k], test(count && !broken[k]));
+            printf("%s: %s: all but %llu%s\n", name, check_names[k], broken[k], test(count && !broken[k]));
         }
     }
     for (int fault = NONE + 1; fault < FAULTS; fault++) {
