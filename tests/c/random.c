@@ -48,9 +48,9 @@ static const struct { uint8_t n1, n2; } settings[] = {
 };
 enum { SETTINGS = sizeof settings / sizeof settings[0] };
 
-// Mostly the usual number; else one at the bound, one that 8 or 16 bits would cut down to the usual one, or any.
-static uint32_t vary(uint32_t usual, uint32_t bound) {
-    switch (below(192)) {
+// The usual number but for nine chances: one at the bound, one that 8 or 16 bits would cut down to the usual one, or any.
+static uint32_t vary(uint32_t usual, uint32_t bound, uint32_t chances) {
+    switch (below(chances)) {
     case 0: return bound - 1;
     case 1: return bound;
     case 2: return bound + 1;
@@ -64,7 +64,7 @@ static uint32_t vary(uint32_t usual, uint32_t bound) {
     }
 }
 
-// Mostly the length needed; else one that is nearly so, one that 8 bits would cut down to it, none, or any.
+// The length needed but for eight chances: one that is nearly so, one that 8 bits would cut down to it, none, or any.
 static size_t vary_length(uint32_t needed, uint32_t chances) {
     switch (below(chances)) {
     case 0: return needed - 1;
@@ -80,21 +80,23 @@ static size_t vary_length(uint32_t needed, uint32_t chances) {
 }
 
 // A request. The ranges from which its indices are drawn are not exact: whether it has to be refused is not known here.
+// Most have no fault or one, so that many are accepted; some have many, so that the order of the refusals is seen.
 static request any_request(int function) {
     uint32_t setting = below(SETTINGS), n1 = settings[setting].n1, n2 = settings[setting].n2, ports = 2 * n1 * n2;
     uint32_t mode = 1 + below(2), v = 1 + below(ports < 8 ? ports : 8);
     uint32_t i11_bound = ports > 2 ? 4 * n1 >> below(2) : 1, i12_bound = n2 > 1 ? 4 * n2 >> below(2) : 1;
     uint32_t i13_bound = ports > 2 && v >= 2 && v <= 4 ? 1 + below(4) : 1;
     uint32_t i2_bound = (v == 1 ? 4 : 2) * (ports > 2 && mode == 2 && v <= 2 ? 4 : 1);
+    uint32_t chances = below(16) ? 192 : 32;
     request q = {.ranks = 255};
-    q.report.n1 = vary(n1, 17);
-    q.report.n2 = vary(n2, n1 + 1);
-    q.report.mode = vary(mode, 3);
-    q.report.v = vary(v, ports < 8 ? ports + 1 : 9);
-    q.report.i11 = vary(below(i11_bound), i11_bound);
-    q.report.i12 = vary(below(i12_bound), i12_bound);
-    q.report.i13 = vary(below(i13_bound), i13_bound);
-    q.report.i2 = vary(below(i2_bound), i2_bound);
+    q.report.n1 = vary(n1, 17, chances);
+    q.report.n2 = vary(n2, n1 + 1, chances);
+    q.report.mode = vary(mode, 3, chances);
+    q.report.v = vary(v, ports < 8 ? ports + 1 : 9, chances);
+    q.report.i11 = vary(below(i11_bound), i11_bound, chances);
+    q.report.i12 = vary(below(i12_bound), i12_bound, chances);
+    q.report.i13 = vary(below(i13_bound), i13_bound, chances);
+    q.report.i2 = vary(below(i2_bound), i2_bound, chances);
     switch (below(16)) {
     case 0: q.ranks = (uint8_t)draw(); break;
     case 1: q.ranks = (uint8_t)(draw() | draw() | draw()); break;
@@ -102,7 +104,7 @@ static request any_request(int function) {
     case 3: q.ranks = below(8) ? 255 : (uint8_t)~(1 << (v - 1)); break;
     }
     uint32_t beam_bits = ports > 2 ? 4 * n1 * (n2 > 1 ? 4 * n2 : 1) : 8;
-    q.beams_len = vary_length(beam_bits / 8, 256);
+    q.beams_len = vary_length(beam_bits / 8, chances);
     q.out_len = vary_length(v * ports * (function == WEIGHTS ? 2 : 1), 32);
     return q;
 }
