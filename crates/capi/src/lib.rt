@@ -3,7 +3,7 @@
 // A call answers any numbers, masks and lengths. It allocates nothing and keeps no state, so several threads may call at
 // once, each with an `out` of its own. A struct goes by value. A slice is a pointer to entries and then their number: the
 // pointer must not be null and must be aligned for them, also where there are none, and `out` must not overlap `beams`.
-// Nothing outside the two is read or written.
+// Nothing else of the caller's is read or written.
 //
 // The settings (n1,n2) are (1,1), called two ports, (2,1), (2,2), (4,1), (3,2), (6,1), (4,2), (8,1), (4,3), (6,2), (12,1),
 // (4,4), (8,2) and (16,1). P is the number of ports, 2·n1·n2.
