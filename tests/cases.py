@@ -43,7 +43,8 @@ FEWEST, SEED = 300, 38_214
 # ---- The answer to any input (01, The printing program) --------------------------------------------------------------
 
 LINE, MOST = re.compile(rb'[0-9]{1,5}( [0-9]{1,5}){7}\n'), 65535
-ROOM = 8 * 32
+# 8 layers of 32 ports.
+ROOM = 256
 
 
 def report_of(data):
@@ -72,7 +73,7 @@ def answer_of(data):
 
 EXAMPLE = b'2 1 1 2 7 0 1 0\n'
 
-# Cases 4 to 9 of 01 name no mode; 7 and 8 are accepted among the bounds below.
+# Where 01 names no mode it is 1 here. The reports of cases 7 and 8 that are accepted are among the bounds.
 WORKED = {
     'worked-1': ('2 1 1 1 1 0 0 1', """
 ok 4 1 4
@@ -393,7 +394,7 @@ def numbers():
 
 def long_inputs():
     """Around 256 bytes, the most that a line may have, and far beyond."""
-    for size in (49, 64, 128, 255, 256, 257, 258, 511, 512, 513, 4096, 10_000):
+    for size in (49, 255, 256, 257, 258, 512, 10_000):
         yield f'unreadable-{size}-bytes-of-digits', b'0' * size
         yield f'unreadable-{size}-bytes-of-digits-and-newline', b'0' * (size - 1) + b'\n'
         yield f'unreadable-{size}-bytes-the-example-first', EXAMPLE.ljust(size, b'x')
@@ -486,8 +487,8 @@ class Program:
     def __init__(self, command):
         self.command, self.hung = command, 0
 
-    def start(self, source, command=()):
-        return subprocess.Popen([*command, *self.command], stdin=source, stdout=subprocess.PIPE, stderr=subprocess.PIPE)
+    def start(self, source, *starter):
+        return subprocess.Popen([*starter, *self.command], stdin=source, stdout=subprocess.PIPE, stderr=subprocess.PIPE)
 
     def finish(self, process):
         try:
@@ -498,8 +499,8 @@ class Program:
             process.kill()
             return Came(*process.communicate(), 'hung')
 
-    def from_file(self, path):
-        with open(path, 'rb') as source:
+    def from_file(self, path, mode='rb'):
+        with open(path, mode) as source:
             return self.finish(self.start(source))
 
     def from_command(self, *command):
@@ -513,32 +514,29 @@ class Program:
 
     def without_input(self):
         """Its standard input is closed."""
-        return self.finish(self.start(None, ('bash', '-c', 'exec "$@" <&-', 'bash')))
+        return self.finish(self.start(None, 'bash', '-c', 'exec "$@" <&-', 'bash'))
 
     def from_pipe(self, *pieces, held_open=False):
         """Each piece is sent when the one before has been read; the pipe is then closed, or held open to the end."""
         reading, writing = os.pipe()
-        process = self.start(reading)
+        process, end = self.start(reading), time.monotonic() + PATIENCE
         os.close(reading)
         with open(writing, 'wb', buffering=0) as pipe:
             try:
                 for piece in pieces:
                     pipe.write(piece)
-                    self.wait_until_read(process, pipe)
+                    while unread(pipe) and process.poll() is None and time.monotonic() < end:
+                        time.sleep(0.001)
             except BrokenPipeError:
                 pass
             if held_open:
                 return self.finish(process)
         return self.finish(process)
 
-    @staticmethod
-    def wait_until_read(process, pipe):
-        end = time.monotonic() + PATIENCE
-        while process.poll() is None and time.monotonic() < end:
-            unread, = struct.unpack('i', fcntl.ioctl(pipe, termios.FIONREAD, bytes(4)))
-            if not unread:
-                return
-            time.sleep(0.001)
+
+def unread(pipe):
+    """How many bytes of a pipe are still to be read."""
+    return struct.unpack('i', fcntl.ioctl(pipe, termios.FIONREAD, bytes(4)))[0]
 
 
 # ---- Tests -----------------------------------------------------------------------------------------------------------
@@ -551,6 +549,8 @@ def shown(data):
 
 
 class Tests:
+    """The tests that passed and failed, as they are counted; the first that failed are printed."""
+
     def __init__(self):
         self.passed, self.failed = 0, 0
 
@@ -620,6 +620,7 @@ def deliveries(program):
     yield 'nothing through a pipe', b'', lambda: program.from_pipe()
     yield 'nothing from a device', b'', lambda: program.from_file('/dev/null')
     yield 'standard input closed', b'', program.without_input
+    yield 'standard input open for writing only', b'', lambda: program.from_file('/dev/null', 'wb')
     for late in (b'\n', b'\0', b' ', b'x', EXAMPLE):
         yield (f'{late!r} after the example has been read', EXAMPLE + late,
                lambda late=late: program.from_pipe(EXAMPLE, late))
@@ -635,7 +636,7 @@ def deliveries(program):
     yield 'zero bytes without end', bytes(300), lambda: program.from_file('/dev/zero')
 
 
-RANDOM_INPUTS, FEWEST_OF_A_KIND = 400, 60
+RANDOM_INPUTS, FEWEST_OF_A_KIND = 300, 50
 USUAL = b'0123456789' * 3 + b'     \n\n\r\t\0+-,.\x80\xb2\xff'
 
 
