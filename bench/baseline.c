@@ -175,31 +175,31 @@ static uint32_t judge(const aspenflick_report *r, const uint8_t *mask, size_t ma
 }
 
 // Writes a beam: the first row by steps of `down`, and every other row from the one before it.
-static void write_beam(uint8_t *out, unsigned rows, unsigned columns, uint8_t across, uint8_t down) {
+static void write_beam(uint8_t *out, size_t rows, size_t columns, uint8_t across, uint8_t down) {
     uint8_t phase = 0;
-    for (unsigned i = 0; i < columns; i++) {
+    for (size_t i = 0; i < columns; i++) {
         out[i] = phase;
         phase = turned(phase, down);
     }
-    for (unsigned i = columns; i < rows * columns; i++) out[i] = turned(out[i - columns], across);
+    for (size_t i = columns; i < rows * columns; i++) out[i] = turned(out[i - columns], across);
 }
 
-static void write_turned(uint8_t *restrict out, const uint8_t *restrict block, unsigned n, uint8_t by) {
-    for (unsigned i = 0; i < n; i++) out[i] = turned(block[i], by);
+static void write_turned(uint8_t *restrict out, const uint8_t *restrict block, size_t n, uint8_t by) {
+    for (size_t i = 0; i < n; i++) out[i] = turned(block[i], by);
 }
 
 // Writes every layer: its first block as a beam, and the others from it.
 static void write_layers(const aspenflick_report *r, const plan *p, uint8_t *out) {
-    unsigned size = p->rows * p->columns;
-    for (unsigned j = 0; j < r->v; j++, out += p->ports) {
-        column c = columns_of[r->v][j];
-        beam b = p->beams[p->blocks == 4 ? 0 : c.place];
-        write_beam(out, p->rows, p->columns, b.l * step_of[r->n1], b.m * step_of[r->n2]);
-        uint8_t second = c.times_f ? turned(p->f, c.added) : c.added;
+    size_t size = p->rows * p->columns;
+    for (size_t j = 0; j < r->v; j++, out += p->ports) {
+        const column *c = &columns_of[r->v][j];
+        const beam *b = &p->beams[p->blocks == 4 ? 0 : c->place];
+        write_beam(out, p->rows, p->columns, b->l * step_of[r->n1], b->m * step_of[r->n2]);
+        uint8_t second = c->times_f ? turned(p->f, c->added) : c->added;
         if (p->blocks == 2) {
             write_turned(out + size, out, size, second);
         } else {
-            uint8_t quarter = turned(p->t, c.place ? HALF : 0);
+            uint8_t quarter = turned(p->t, c->place ? HALF : 0);
             write_turned(out + size, out, size, quarter);
             write_turned(out + 2 * size, out, 2 * size, second);
         }
@@ -229,7 +229,7 @@ aspenflick_record baseline_weights(aspenflick_report r, const uint8_t *beams, si
     uint8_t phases[MOST_ENTRIES];
     write_layers(&r, &p, phases);
     aspenflick_record record = accepted(&r, &p);
-    for (unsigned i = 0; i < record.scale; i++) {
+    for (size_t i = 0; i < record.scale; i++) {
         out[2 * i] = weight_of[phases[i]][0];
         out[2 * i + 1] = weight_of[phases[i]][1];
     }
