@@ -1,11 +1,13 @@
 // Compares the three versions of the job and counts the x86 instructions of their calls.
 //
-// measure compare       compares records and buffers, and says how many calls were compared; status 1 at a difference
-// measure count A B     counts by single steps, for the settings A to B - 1 of the list below; a line for each setting,
-//                       rank, function and version: N1 N2 v function version instructions calls
-// measure marks A B     makes the same calls for an emulator that counts between marks: see mark below
+// measure compare       compares records and buffers, and prints how many reports in range and how many calls were
+//                       compared; a difference ends it with status 1
+// measure count K       counts by single steps for setting K of the list below, 0 to 13. A line for each measured call:
+//                       the report, the function, the version and the instructions. Version `empty` returns at once
+// measure marks K       makes the same calls for an emulator's plugin, which counts from mark to mark: see mark below
 // measure places VERSION FUNCTION N1 N2 mode v i11 i12 i13 i2
-//                       prints how often each instruction of one call is executed: address and count
+//                       prints how often each instruction of one call is executed: its address, less that of the
+//                       program's start, and the count
 #define _GNU_SOURCE
 #include "aspenflick.h"
 #include <signal.h>
@@ -224,36 +226,40 @@ static void print_measured(int version, int function, const request *q) {
            function_names[function], version_names[version], measured(version, function, q));
 }
 
-// Measures some of the reports in range of a setting, mode and rank, spread over all of them.
-static void measure_some(int setting, uint32_t mode, uint32_t v, unsigned at_most, unsigned at_most_eigen) {
-    static aspenflick_report reports[4096];
+// Measures some of the reports in range of a setting, mode and rank, spread over all of them. Eigen's calls are long:
+// the larger the matrix, the fewer of these reports it is given.
+static void measure_some(int setting, uint32_t mode, uint32_t v) {
+    enum { MOST_REPORTS = 4096, AT_MOST = 8, ENTRIES_OF_EIGEN = 64 };
+    static aspenflick_report reports[MOST_REPORTS];
     unsigned count = 0;
     request q = {.report = {0, 0, mode, v, 0, 0, 0, 0}};
     ones(&q, setting);
+    uint32_t entries = v * 2 * q.report.n1 * q.report.n2;
     do {
         if (call(BASELINE, ON_PHASES, &q, buffers[0].bytes).refusal == 0) reports[count++] = q.report;
     } while (next_report(&q.report));
-    unsigned step = (count + at_most - 1) / at_most | 1, eigen_every = (at_most + at_most_eigen - 1) / at_most_eigen;
-    for (unsigned i = 0; i * step < count; i++) {
-        q.report = reports[i * step];
+    // An odd distance, so that indices with few values take them all.
+    unsigned distance = ((count + AT_MOST - 1) / AT_MOST) | 1, taken = (count + distance - 1) / distance;
+    unsigned of_eigen = ENTRIES_OF_EIGEN / entries + 1, every = (taken + of_eigen - 1) / of_eigen;
+    for (unsigned i = 0; i < taken; i++) {
+        q.report = reports[i * distance];
         for (int function = 0; function < FUNCTIONS; function++) {
-            q.room = (function == ON_WEIGHTS ? 2 : 1) * v * 2 * q.report.n1 * q.report.n2;
+            q.room = (function == ON_WEIGHTS ? 2 : 1) * entries;
             print_measured(OURS, function, &q);
             print_measured(BASELINE, function, &q);
-            if (i % eigen_every == 0) print_measured(EIGEN, function, &q);
+            if (i % every == every / 2) print_measured(EIGEN, function, &q);
         }
     }
 }
 
-static void measure_settings(int first, int end) {
-    enum { AT_MOST = 6, AT_MOST_EIGEN = 1 };
+// Mode 2 acts on one and two layers, and not on two ports.
+static void measure_setting(int setting) {
     request q = {.room = 0};
     for (int function = 0; function < FUNCTIONS; function++) print_measured(EMPTY, function, &q);
-    for (int setting = first; setting < end; setting++) {
-        uint32_t ports = 2 * settings[setting].n1 * settings[setting].n2;
-        for (uint32_t v = 1; v <= MOST_V && v <= ports; v++) {
-            for (uint32_t mode = 1; mode <= 2; mode++) measure_some(setting, mode, v, AT_MOST, AT_MOST_EIGEN);
-        }
+    uint32_t ports = 2 * settings[setting].n1 * settings[setting].n2;
+    for (uint32_t v = 1; v <= MOST_V && v <= ports; v++) {
+        measure_some(setting, 1, v);
+        if (v <= 2 && ports > 2) measure_some(setting, 2, v);
     }
 }
 
@@ -288,9 +294,9 @@ int main(int count, char **words) {
     sigaction(SIGTRAP, &action, NULL);
     if (count == 2 && strcmp(words[1], "compare") == 0) {
         compare_all();
-    } else if (count == 4 && (strcmp(words[1], "count") == 0 || strcmp(words[1], "marks") == 0)) {
-        marking = words[1][0] == 'm';
-        measure_settings(atoi(words[2]), atoi(words[3]));
+    } else if (count == 3 && (strcmp(words[1], "count") == 0 || strcmp(words[1], "marks") == 0)) {
+        marking = strcmp(words[1], "marks") == 0;
+        measure_setting(atoi(words[2]) % SETTINGS);
     } else if (count == 12 && strcmp(words[1], "places") == 0) {
         print_places(words + 2);
     } else {
