@@ -229,7 +229,7 @@ static void print_measured(int version, int function, const request *q) {
 // Measures some of the reports in range of a setting, mode and rank, spread over all of them. Eigen's calls are long:
 // the larger the matrix, the fewer of these reports it is given.
 static void measure_some(int setting, uint32_t mode, uint32_t v) {
-    enum { MOST_REPORTS = 4096, AT_MOST = 8, ENTRIES_OF_EIGEN = 64 };
+    enum { MOST_REPORTS = 4096, AT_MOST = 5, ENTRIES_OF_EIGEN = 16 };
     static aspenflick_report reports[MOST_REPORTS];
     unsigned count = 0;
     request q = {.report = {0, 0, mode, v, 0, 0, 0, 0}};
