@@ -16,12 +16,11 @@ use Rattle.codebook.specs.declared.Beam.{Beam}
 use Rattle.codebook.specs.declared.Choice.{Choice}
 use Rattle.codebook.specs.Settings.{isSetting, across, down, o1, o2}
 use Rattle.codebook.specs.Columns.{halfLength, beams}
-use Rattle.codebook.specs.Matrix.{Layer, fOf, tOf, addedOf, whole, quartered, blocks, rows, block, columnOf}
+use Rattle.codebook.specs.Matrix.{fOf, tOf, addedOf, whole, quartered, blocks, rows, block, columnOf}
 use Rattle.codebook.specs.Refusals.{InRange, accepted}
 use Rattle.codebook.proofs.Known.{Known, known}
 use Rattle.codebook.proofs.Bits.{none, four-at, Within, beams-within}
 use Rattle.codebook.proofs.Layers.{column-sized}
-use Rattle.precoder.specs.declared.layers.Layer.{Layer as Placed}
 use Rattle.precoder.specs.declared.layers.Frame.{Frame}
 use Rattle.precoder.specs.Digit.{bracket, second, four, layerOf}
 use Rattle.precoder.specs.Layer.{Reduced, Holds, Framed, blockAt, Draws}
@@ -108,12 +107,11 @@ module _ {c : Choice} {s : Frame} (r : Report) (h : InRange r) (e : c ≡ accept
   unfolding block
   beam-drawn = rw (f .rows, across-step, down-step)
 
--- a block has some rows, and at most sixteen entries
-pub block-fits : (r : Report) → isSetting (r .n1) (r .n2) ≡ true → (1 ≤ rows r) × (rows r * r .n2 ≤ 16)
+-- a block has at most sixteen entries
+pub block-fits : (r : Report) → isSetting (r .n1) (r .n2) ≡ true → rows r * r .n2 ≤ 16
 block-fits r e =
-    let sized = column-sized r e in
     let half = mul-le-mul-right (rows r * r .n2) (few-blocks r .0) in
-    (sized .some, omega (arith, sized .all, half, known (r .n1) (r .n2) e .antennas))
+    omega (arith, column-sized r e .all, half, known (r .n1) (r .n2) e .antennas)
 
 length-block : (r : Report) (place : ℕ) → length (blockAt r place) ≡ rows r * r .n2
 unfolding block

@@ -2,10 +2,9 @@
 use mathlib.Core.Bool.{cond}
 use mathlib.Core.List.{List, [], _∷_}
 use Prim.Native.Nat.{ℕ, _+_, _/_, _%_}
-use lib.ListN.{getD, take}
 use Rattle.codebook.specs.declared.Report.{Report}
-use Rattle.codebook.specs.Columns.{Bracket, _⨾_, beam, halfLength, beams}
-use Rattle.codebook.specs.Matrix.{Layer, fOf, tOf, addedOf, whole, quartered, blocks}
+use Rattle.codebook.specs.Columns.{Bracket, _⨾_, halfLength}
+use Rattle.codebook.specs.Matrix.{Layer, fOf, tOf, addedOf, whole, quartered}
 
 -- a digit is 4 times the place of a beam, and what is added
 abbrev pub bracket : ℕ → Bracket

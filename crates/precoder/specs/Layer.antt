@@ -1,14 +1,16 @@
 -- What the code holds of a beam, of a layer, and of a report's layers together.
 use mathlib.Core.Path.{_≡_}
 use mathlib.Core.List.{List, map}
-use Prim.Native.Nat.{ℕ, _/_, _<_}
+use Prim.Native.Nat.{ℕ, _+_, _-_, _/_, _<_}
+use lib.Dec.{eqb}
 use lib.ListN.{length, take, getD}
 use Rattle.turn.specs.Phase.{turn, phase}
 use Rattle.turn.specs.Column.{column}
 use Rattle.codebook.specs.declared.Report.{Report}
-use Rattle.codebook.specs.Settings.{across, down}
+use Rattle.codebook.specs.Settings.{_⇒_∣_, across, down}
 use Rattle.codebook.specs.Columns.{beam, beams}
 use Rattle.codebook.specs.Matrix.{Layer as Planned, fOf, tOf, blocks, rows, block, columnOf}
+use Rattle.precoder.specs.declared.fill.Cursor.{Cursor}
 use Rattle.precoder.specs.declared.layers.Layer.{Layer}
 use Rattle.precoder.specs.declared.layers.Frame.{Frame}
 
@@ -21,6 +23,13 @@ pub record Holds (xs b : List ℕ) : Type 0 where
   pub places : length b ≡ 16
   pub reduced : Reduced b
   pub front : take (length xs) b ≡ map phase xs
+
+-- a cursor one entry on, in rows of w entries: `down` more, or at the start of the next row `across` more than at the start
+-- of this one
+unfoldable pub after : ℕ → ℕ → ℕ → Cursor → Cursor
+after w across down c =
+    eqb (c .left) 1 ⇒ record { left = w; start = phase (c .start + across); next = phase (c .start + across) }
+    ∣ record { left = c .left - 1; start = c .start; next = phase (c .next + down) }
 
 -- what the layers of a report have in common
 pub record Framed (r : Report) (s : Frame) : Type 0 where

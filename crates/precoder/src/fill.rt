@@ -1,11 +1,11 @@
 // Beams, and columns made of them: the first block is the beam, and every other block is made from it.
 ghost use mathlib.Core.Path.{_≡_};
-ghost use mathlib.Core.List.{[], _∷_, _++_, map};
+ghost use mathlib.Core.List.{[], _∷_, _++_};
 ghost use Prim.Native.Nat.{_+_, _*_, _<_, _≤_};
 ghost use lib.ListN.{length, take, drop, getD};
 ghost use Rattle.turn.specs.Phase.{turn, phase};
-ghost use Rattle.turn.specs.Column.{steps, grid, column};
-ghost use Rattle.precoder.specs.Layer.{Reduced, Holds};
+ghost use Rattle.turn.specs.Column.{grid, column};
+ghost use Rattle.precoder.specs.Layer.{Reduced, Holds, after};
 
 // The phase x turned by c, in bytes alone.
 fn turned(x: u8, c: u8) -> u8
@@ -19,44 +19,68 @@ fn turned(x: u8, c: u8) -> u8
     x - rest
 }
 
-// The first row: n entries, each `step` more.
-fn first_row(out: &mut [u8], n: usize, step: u8)
-    requires { ⌜ (n ≤ length (now out)) × (step < turn) ⌝ }
-    ensures { λ _. ⌜ now (out .exit) ≡ map phase (steps n step) ++ drop n (now (out .entry)) ⌝ }
-{
-    let mut x = 0;
-    let mut b = 0;
-    while b < n {
-        out[b] = x;
-        x = turned(x, step);
-        b += 1;
-    }
+// Where a beam is drawn: how many entries are left in the row, the phase at the start of the row, and the phase of the next
+// entry.
+pub struct Cursor {
+    pub left: usize,
+    pub start: u32,
+    pub next: u32,
 }
 
-// The rows after the first, n rows of w entries in all: each is the row before it, turned by `step`.
-fn other_rows(out: &mut [u8], w: usize, n: usize, step: u8)
-    requires { ⌜ (1 ≤ n) × (1 ≤ w) × (n * w ≤ length (now out)) × (step < turn) × Reduced (take w (now out)) ⌝ }
-    ensures { λ _. ⌜ now (out .exit)
-        ≡ column (steps n step) (take w (now (out .entry))) ++ drop (n * w) (now (out .entry)) ⌝ }
+// The phase x turned by c, in 32 bits.
+fn stepped(x: u32, c: u32) -> u32
+    requires { ⌜ (x < turn) × (c < turn) ⌝ }
+    ensures { λ r. ⌜ r ≡ phase (x + c) ⌝ }
 {
-    let end = n * w;
-    let mut i = w;
-    while i < end {
-        let x = out[i - w];
-        out[i] = turned(x, step);
-        i += 1;
+    let sum = x + c;
+    if sum < turn::TURN as u32 {
+        return sum;
+    }
+    sum - turn::TURN as u32
+}
+
+// The cursor one entry on, in rows of w entries: in the same row `down` more, and in the next row `across` more than at the
+// start of this one.
+fn advanced(c: Cursor, w: usize, across: u32, down: u32) -> Cursor
+    requires { ⌜ (1 ≤ c .left) × (c .start < turn) × (c .next < turn) × (across < turn) × (down < turn) ⌝ }
+    ensures { λ r. ⌜ r ≡ after w across down c ⌝ }
+{
+    if c.left == 1 {
+        let start = stepped(c.start, across);
+        return Cursor {
+            left: w,
+            start: start,
+            next: start,
+        };
+    }
+    let left = c.left - 1;
+    let next = stepped(c.next, down);
+    Cursor {
+        left: left,
+        start: c.start,
+        next: next,
     }
 }
 
 // A beam: n rows of w entries, `down` more from entry to entry and `across` more from row to row. It has sixteen places,
 // the most that a beam needs, so that what reads it has the same number of steps whatever the setting.
-pub fn draw(n: usize, w: usize, across: u8, down: u8) -> [u8; 16]
-    requires { ⌜ (1 ≤ n) × (1 ≤ w) × (n * w ≤ 16) × (across < turn) × (down < turn) ⌝ }
+pub fn draw(n: usize, w: usize, across: u32, down: u32) -> [u8; 16]
+    requires { ⌜ (1 ≤ w) × (n * w ≤ 16) × (across < turn) × (down < turn) ⌝ }
     ensures { λ b. ⌜ Holds (grid n across w down) b ⌝ }
 {
     let mut beam = [0; 16];
-    first_row(&mut beam, w, down);
-    other_rows(&mut beam, w, n, across);
+    let end = n * w;
+    let mut c = Cursor {
+        left: w,
+        start: 0,
+        next: 0,
+    };
+    let mut i = 0;
+    while i < end {
+        beam[i] = c.next as u8;
+        c = advanced(c, w, across, down);
+        i += 1;
+    }
     beam
 }
 

@@ -116,8 +116,8 @@ fn beam_at(r: Report, c: Choice, s: Frame, place: usize) -> [u8; 16]
 {
     let l = c.l;
     let m = c.m;
-    let across = (l[place] * s.across) as u8;
-    let down = (m[place] * s.down) as u8;
+    let across = l[place] * s.across;
+    let down = m[place] * s.down;
     draw(s.rows, r.n2 as usize, across, down)
 }
 

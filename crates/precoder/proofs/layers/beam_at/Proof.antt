@@ -28,9 +28,6 @@ array-read-across c = search needs
 mul-across-2 : tie.Need-mul-across-2
 mul-across-2 c = omega (arith, across-fits (c .before .before .before))
 
-cast-across : tie.Need-cast-across
-cast-across c = omega (arith, across-fits (c .before .before .before))
-
 mul-down : tie.Need-mul-down
 mul-down c = search needs
 
@@ -40,9 +37,6 @@ array-read-down c = search needs
 mul-down-2 : tie.Need-mul-down-2
 mul-down-2 c = omega (arith, down-fits (c .before .before .before .before))
 
-cast-down : tie.Need-cast-down
-cast-down c = omega (arith, down-fits (c .before .before .before .before))
-
 cast-draw : tie.Need-cast-draw
 cast-draw c = search needs
 
@@ -51,9 +45,8 @@ draw-requires c κs =
     let s = c .before .before .before .before .before in
     let r = s .args .r in
     let fits = block-fits r (s .pre .0 .setting) in (
-      omega (arith, fits .0, s .pre .2 .rows),
       known (r .n1) (r .n2) (s .pre .0 .setting) .n2-some,
-      subst (λ (n : ℕ). n * r .n2 ≤ 16) (sym (s .pre .2 .rows)) (fits .1),
+      subst (λ (n : ℕ). n * r .n2 ≤ 16) (sym (s .pre .2 .rows)) (fits),
       across-fits s,
       down-fits s,
     )
@@ -71,11 +64,9 @@ beam-at-spec =
     mul-across
     array-read-across
     mul-across-2
-    cast-across
     mul-down
     array-read-down
     mul-down-2
-    cast-down
     cast-draw
     draw-requires
     returns)

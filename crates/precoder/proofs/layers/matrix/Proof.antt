@@ -16,7 +16,7 @@ use Rattle.codebook.proofs.Layers.{length-layers, column-sized}
 use Rattle.precoder.specs.declared.layers.Frame.{Frame}
 use Rattle.precoder.specs.Layer.{Framed, Stands}
 use Rattle.precoder.proofs.Framing.{few-blocks, block-fits, column-held}
-use Rattle.precoder.proofs.Digits.{digits, rank, digits-next, written, lowest, written-next}
+use Rattle.precoder.proofs.Digits.{digits, rank, digits-next, written, written-next}
 use Rattle.precoder.proofs.layers.matrix.Statement.{statement}
 use Rattle.precoder.proofs.layers.matrix.Tie as tie
 
@@ -38,7 +38,7 @@ setting s = known _ _ (s .pre .0 .setting)
 -- a block has at most sixteen entries, and the blocks have an entry for each port
 module _ {f : Frame} (s : tie.Start Inv-loop μ-loop) (frame : Framed (s .args .r) f) where
   block-room : f .rows * s .args .r .n2 ≤ 16
-  block-room = rw (frame .rows) (block-fits (s .args .r) (s .pre .0 .setting) .1)
+  block-room = rw (frame .rows) (block-fits (s .args .r) (s .pre .0 .setting))
 
   ports-written : f .blocks * (f .rows * s .args .r .n2) ≡ ports (s .args .r .n1) (s .args .r .n2)
   ports-written = rw (frame .rows, frame .blocks) (column-sized (s .args .r) (s .pre .0 .setting) .all)
