@@ -12,19 +12,8 @@
 //
 // The exit status is 0 if the input ends after a whole request, 1 if it ends inside one or a request names no function,
 // 2 if reading or writing fails.
-// Freestanding: no headers, and of the C library only read, write and _exit.
-typedef __UINT8_TYPE__ uint8_t;
-typedef __INT16_TYPE__ int16_t;
-typedef __UINT32_TYPE__ uint32_t;
-typedef __UINT64_TYPE__ uint64_t;
-typedef __SIZE_TYPE__ size_t;
-
-typedef struct { uint32_t n1, n2, mode, v, i11, i12, i13, i2; } aspenflick_report;
-typedef struct { uint32_t refusal, ports, layers, scale; } aspenflick_record;
-aspenflick_record aspenflick_phases(aspenflick_report r, const uint8_t *beams, size_t beams_len, uint8_t ranks,
-                                    uint8_t *out, size_t out_len);
-aspenflick_record aspenflick_weights(aspenflick_report r, const uint8_t *beams, size_t beams_len, uint8_t ranks,
-                                     int16_t *out, size_t out_len);
+// Freestanding: of the C library only read, write and _exit.
+#include "aspenflick.h"
 
 long read(int, void *, size_t);
 long write(int, const void *, size_t);

@@ -20,7 +20,7 @@ use Rattle.codebook.proofs.Layers.{length-matrix}
 use Rattle.precoder.specs.Answer.{P, weightsOf}
 use Rattle.precoder.specs.Layer.{Reduced}
 use Rattle.precoder.proofs.Written.{stored}
-use Rattle.precoder.proofs.Columns.{column-below}
+use Rattle.precoder.proofs.Columns.{column-below, below-append}
 
 module _ (phases : List ℕ) (n : ℕ) (h : n ≤ length phases) where
   abbrev pub expanded : List ℤ
@@ -59,12 +59,6 @@ module _ (phases : List ℕ) (n : ℕ) (h : n ≤ length phases) where
 
 -- ---- the phases of a matrix
 
-below-append : (xs ys : List ℕ) → ((i : ℕ) → getD xs i 0 < turn) → ((i : ℕ) → getD ys i 0 < turn)
-    → (i : ℕ) → getD (xs ++ ys) i 0 < turn
-below-append [] ys p q i = q i
-below-append (x ∷ xs) ys p q zero = p 0
-below-append (x ∷ xs) ys p q (suc i) = below-append xs ys (λ j. p (suc j)) q i
-
 below-join : {A : Type 0} (f : A → List ℕ) → ((x : A) (i : ℕ) → getD (f x) i 0 < turn)
     → (xs : List A) (i : ℕ) → getD (join (map f xs)) i 0 < turn
 unfolding join
@@ -85,22 +79,18 @@ module _ (r : Report) where
   unfolding weightsOf
   length-weights h = length-numbers _ ∙ ap (λ (m : ℕ). 2 * m) (length-map (matrix r) _ ∙ length-matrix r h)
 
-  -- a list that begins with the matrix
-  module _ (h : InRange r) {phases : List ℕ} (rest : List ℕ) (n : ℕ) (e : n ≡ r .v * P r)
-      (q : phases ≡ matrix r ++ rest) where
-    long : length (matrix r) ≡ n
-    long = length-matrix r h ∙ sym e
-
+  -- a list of which the first n entries are the matrix
+  module _ (phases : List ℕ) (n : ℕ) (e : n ≡ r .v * P r) (q : take (r .v * P r) phases ≡ matrix r) where
     front : take n phases ≡ matrix r
-    front = ap (take n) q ∙ take-at (matrix r) rest n long
-
-    pub front-fits : n ≤ length phases
-    front-fits = rw (q, length-append) (omega (arith, long))
+    front = ap (λ (m : ℕ). take m phases) e ∙ q
 
     pub front-reduced : Reduced (take n phases)
     front-reduced = rw front (record { below = λ i k. matrix-below i })
 
-    -- its weights are those of the report
+    -- copied, they are the report's answer, and so are their weights
+    pub front-phases : {o : List ℕ} (lent : List ℕ) → o ≡ take n phases ++ drop n lent → o ≡ matrix r ++ drop n lent
+    front-phases lent f = f ∙ rw front
+
     pub front-weights : {o : List ℤ} (lent : List ℤ) → o ≡ numbers (map weight (take n phases)) ++ drop (2 * n) lent
         → o ≡ weightsOf r ++ drop (2 * n) lent
     unfolding weightsOf

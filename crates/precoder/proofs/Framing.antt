@@ -1,30 +1,30 @@
 -- What the code holds of a report, and the layers that it makes of that, are the definition's. Assumes nothing.
 use mathlib.Core.Path.{_≡_, refl, sym, ap, ap₂, _∙_}
 use mathlib.Core.Bool.{Bool, true, false, cond}
-use mathlib.Core.List.{List, [], _∷_}
+use mathlib.Core.List.{List, [], _∷_, map}
 use Prim.Native.Nat.{ℕ, zero, suc, _+_, _*_, _/_, _%_, _<_, _≤_}
-use native.Mathlib.Nat.{mod-eq-of-lt, not-suc-le-zero}
+use native.Mathlib.Nat.{mod-eq-of-lt, mul-le-mul-right, not-suc-le-zero}
 use native.Mathlib.Omega.{arith}
-use lib.ListN.{take, getD}
+use lib.ListN.{length, take, getD}
 use borrow.Author.Tests.{lt-ltb, ne-eqb}
 use Rattle.turn.specs.Phase.{turn, phase}
 use Rattle.turn.specs.Column.{grid, step, column}
+use Rattle.turn.proofs.Lists.{length-grid}
 use Rattle.turn.proofs.Steps.{step-reduced}
 use Rattle.codebook.specs.declared.Report.{Report}
 use Rattle.codebook.specs.declared.Beam.{Beam}
 use Rattle.codebook.specs.declared.Choice.{Choice}
-use Rattle.codebook.specs.Settings.{across, down, o1, o2}
+use Rattle.codebook.specs.Settings.{isSetting, across, down, o1, o2}
 use Rattle.codebook.specs.Columns.{halfLength, beams}
-use Rattle.codebook.specs.Matrix.{Layer, fOf, tOf, addedOf, whole, quartered, blocks, rows, block, columnOf}
+use Rattle.codebook.specs.Matrix.{fOf, tOf, addedOf, whole, quartered, blocks, rows, block, columnOf}
 use Rattle.codebook.specs.Refusals.{InRange, accepted}
 use Rattle.codebook.proofs.Known.{Known, known}
 use Rattle.codebook.proofs.Bits.{none, four-at, Within, beams-within}
 use Rattle.codebook.proofs.Layers.{column-sized}
-use Rattle.precoder.specs.declared.fill.Layer.{Layer as Written}
 use Rattle.precoder.specs.declared.layers.Frame.{Frame}
-use Rattle.precoder.specs.Digit.{onBeam, bracket, second, four, layerOf}
-use Rattle.precoder.specs.Layer.{Reduced, Framed, Draws}
-use Rattle.precoder.proofs.Columns.{column-phases}
+use Rattle.precoder.specs.Digit.{bracket, second, four, layerOf}
+use Rattle.precoder.specs.Layer.{Reduced, Holds, Framed, blockAt, Draws}
+use Rattle.precoder.proofs.Columns.{column-phases, column-reduced}
 
 -- ---- what the layers have in common
 
@@ -42,10 +42,10 @@ rows-shared r = by-length (halfLength r)
     by-length true = omega arith
     by-length false = omega arith
 
-pub few-blocks : (r : Report) → (1 ≤ blocks r) × (blocks r ≤ 4)
+pub few-blocks : (r : Report) → (2 ≤ blocks r) × (blocks r ≤ 4)
 few-blocks r = by-length (halfLength r)
   where
-    by-length : (b : Bool) → (1 ≤ cond b 4 2) × (cond b 4 2 ≤ 4)
+    by-length : (b : Bool) → (2 ≤ cond b 4 2) × (cond b 4 2 ≤ 4)
     by-length true = omega arith
     by-length false = omega arith
 
@@ -102,38 +102,28 @@ module _ {c : Choice} {s : Frame} (r : Report) (h : InRange r) (e : c ≡ accept
   pub down-below : getD (c .m) place 0 * s .down < turn
   down-below = omega (arith, down-step, step-reduced (r .n2) (o2 (r .n2)) (k .down-parts) (there .m))
 
-  abbrev block-of : ℕ → List ℕ
-  block-of m = grid m (step (r .n1) (o1 (r .n1)) (there .l)) (r .n2) (step (r .n2) (o2 (r .n2)) (there .m))
+  -- the beam that the code draws of them
+  pub beam-drawn : grid (s .rows) (getD (c .l) place 0 * s .across) (r .n2) (getD (c .m) place 0 * s .down) ≡ blockAt r place
+  unfolding block
+  beam-drawn = rw (f .rows, across-step, down-step)
 
-  -- the layer that the code makes of them
-  pub beam-draws : {co : List ℕ} → getD co 0 0 ≡ 0 → Reduced co
-      → Draws r (onBeam r place co)
-      record {
-        rows = s .rows;
-        columns = r .n2;
-        across = getD (c .l) place 0 * s .across;
-        down = getD (c .m) place 0 * s .down;
-        blocks = s .blocks;
-        co = co;
-      }
-  unfolding columnOf onBeam block
-  beam-draws {co} first reduced =
-      let sized = column-sized r (h .setting) in
-      record {
-        drawn = record {
-          rows = omega (arith, sized .some, sized .few, f .rows);
-          columns = (k .n2-some, k .n2-few);
-          blocks = omega (arith, few-blocks r, f .blocks);
-          across = across-below;
-          down = down-below;
-          first = first;
-          co = reduced;
-        };
-        size = ap₂ (λ (n m : ℕ). n * (m * r .n2)) (f .blocks) (f .rows) ∙ sized .all;
-        same =
-            ap₂ (λ (a d : ℕ). column (take (s .blocks) co) (grid (s .rows) a (r .n2) d)) across-step down-step
-            ∙ ap₂ (λ (n m : ℕ). column (take n co) (block-of m)) (f .blocks) (f .rows);
-      }
+-- a block has at most sixteen entries
+pub block-fits : (r : Report) → isSetting (r .n1) (r .n2) ≡ true → rows r * r .n2 ≤ 16
+block-fits r e =
+    let half = mul-le-mul-right (rows r * r .n2) (few-blocks r .0) in
+    omega (arith, column-sized r e .all, half, known (r .n1) (r .n2) e .antennas)
+
+length-block : (r : Report) (place : ℕ) → length (blockAt r place) ≡ rows r * r .n2
+unfolding block
+length-block r place = length-grid (rows r) _ (r .n2) _
+
+-- a column of what is held of a block is a column of the block
+pub column-held : (r : Report) (place : ℕ) {b : List ℕ} (co : List ℕ) (n w : ℕ) → n ≡ blocks r → w ≡ rows r * r .n2
+    → Holds (blockAt r place) b → column (take n co) (take w b) ≡ column (take (blocks r) co) (blockAt r place)
+column-held r place {b} co n w e f h =
+    let long : length (blockAt r place) ≡ w = length-block r place ∙ sym f in
+    let front : take w b ≡ map phase (blockAt r place) = ap (λ (m : ℕ). take m b) (sym long) ∙ h .front in
+    rw (e, front) (column-reduced (take (blocks r) co) (blockAt r place))
 
 -- ---- co-phases
 
@@ -160,21 +150,28 @@ added-reduced f (suc (suc (suc (suc k)))) h = absurd (omega arith)
 pub added-of : {y g : ℕ} (f k : ℕ) → y ≡ phase (addedOf g (k % 4)) → g ≡ phase f → y ≡ phase (addedOf f (k % 4))
 added-of f k e d = e ∙ rw d (added-reduced f (k % 4) (omega arith))
 
-module _ (r : Report) where
-  draws-same : {x x′ : Layer} {y : Written} → columnOf r x ≡ columnOf r x′ → Draws r x y → Draws r x′ y
-  draws-same e d = record { drawn = d .drawn; size = d .size; same = d .same ∙ e }
-
+module _ (r : Report) (digit : ℕ) where
   -- [x; y]
-  pub whole-draws : {y : Written} (digit a : ℕ) → halfLength r ≡ false → a ≡ phase (addedOf (fOf r) (digit % 4))
-      → Draws r (onBeam r (digit / 4) (0 ∷ a ∷ 0 ∷ 0 ∷ [])) y → Draws r (layerOf r (bracket digit)) y
-  unfolding columnOf onBeam layerOf whole
-  whole-draws digit a b e = draws-same (rw (b, e) (column-phases (0 ∷ addedOf (fOf r) (digit % 4) ∷ []) _))
+  pub whole-draws : (a : ℕ) → digit < 16 → halfLength r ≡ false → a ≡ phase (addedOf (fOf r) (digit % 4))
+      → Draws r (layerOf r (bracket digit)) record { place = digit / 4; co = 0 ∷ a ∷ 0 ∷ 0 ∷ [] }
+  unfolding columnOf layerOf whole
+  whole-draws a h b e = record {
+    few = omega arith;
+    first = refl;
+    reduced = reduced-four (omega arith) (omega (arith, e)) (omega arith) (omega arith);
+    same = rw (b, e) (column-phases (0 ∷ addedOf (fOf r) (digit % 4) ∷ []) _);
+  }
 
   -- the four quarters
-  pub quarters-draws : {y : Written} (digit a z w : ℕ) → halfLength r ≡ true → a ≡ phase (addedOf (fOf r) (digit % 4))
+  pub quarters-draws : (a z w : ℕ) → halfLength r ≡ true → a ≡ phase (addedOf (fOf r) (digit % 4))
       → z ≡ phase (second (tOf r) (digit / 4)) → w ≡ phase (a + z)
-      → Draws r (onBeam r 0 (0 ∷ z ∷ a ∷ w ∷ [])) y → Draws r (layerOf r (bracket digit)) y
-  unfolding columnOf onBeam layerOf quartered
-  quarters-draws digit a z w b e f g =
+      → Draws r (layerOf r (bracket digit)) record { place = 0; co = 0 ∷ z ∷ a ∷ w ∷ [] }
+  unfolding columnOf layerOf quartered
+  quarters-draws a z w b e f g =
       let both : w ≡ phase (addedOf (fOf r) (digit % 4) + second (tOf r) (digit / 4)) = omega arith in
-      draws-same (rw (b, e, f, both) (column-phases (four (fOf r) (tOf r) (bracket digit)) _))
+      record {
+        few = omega arith;
+        first = refl;
+        reduced = reduced-four (omega arith) (omega (arith, f)) (omega (arith, e)) (omega (arith, g));
+        same = rw (b, e, f, both) (column-phases (four (fOf r) (tOf r) (bracket digit)) _);
+      }

@@ -2,6 +2,7 @@
 pub mod Written
 pub mod Expanded
 pub mod Columns
+pub mod Drawn
 pub mod Framing
 pub mod Digits
 pub mod Answers

@@ -2,14 +2,9 @@
 use mathlib.Core.Bool.{cond}
 use mathlib.Core.List.{List, [], _∷_}
 use Prim.Native.Nat.{ℕ, _+_, _/_, _%_}
-use lib.ListN.{getD, take}
 use Rattle.codebook.specs.declared.Report.{Report}
-use Rattle.codebook.specs.Columns.{Bracket, _⨾_, beam, halfLength, beams}
-use Rattle.codebook.specs.Matrix.{Layer, fOf, tOf, addedOf, whole, quartered, blocks}
-
--- the beam at a place, with as many co-phases as the report's columns have blocks
-unfoldable pub onBeam : Report → ℕ → List ℕ → Layer
-onBeam r place co = record { beam = getD (beams r) place (beam 0 0); co = take (blocks r) co }
+use Rattle.codebook.specs.Columns.{Bracket, _⨾_, halfLength}
+use Rattle.codebook.specs.Matrix.{Layer, fOf, tOf, addedOf, whole, quartered}
 
 -- a digit is 4 times the place of a beam, and what is added
 abbrev pub bracket : ℕ → Bracket

@@ -1,36 +1,35 @@
--- What a layer must be to be written, and what it must be to be a report's.
+-- What the code holds of a beam, of a layer, and of a report's layers together.
 use mathlib.Core.Path.{_≡_}
-use mathlib.Core.List.{List}
-use Prim.Native.Nat.{ℕ, _*_, _/_, _<_, _≤_}
+use mathlib.Core.List.{List, map}
+use Prim.Native.Nat.{ℕ, _+_, _-_, _/_, _<_}
+use lib.Dec.{eqb}
 use lib.ListN.{length, take, getD}
 use Rattle.turn.specs.Phase.{turn, phase}
-use Rattle.turn.specs.Column.{grid, column}
+use Rattle.turn.specs.Column.{column}
 use Rattle.codebook.specs.declared.Report.{Report}
-use Rattle.codebook.specs.Settings.{ports, across, down}
-use Rattle.codebook.specs.Matrix.{Layer as Planned, fOf, tOf, blocks, rows, columnOf}
-use Rattle.precoder.specs.declared.fill.Layer.{Layer}
+use Rattle.codebook.specs.Settings.{_⇒_∣_, across, down}
+use Rattle.codebook.specs.Columns.{beam, beams}
+use Rattle.codebook.specs.Matrix.{Layer as Planned, fOf, tOf, blocks, rows, block, columnOf}
+use Rattle.precoder.specs.declared.fill.Cursor.{Cursor}
+use Rattle.precoder.specs.declared.layers.Layer.{Layer}
 use Rattle.precoder.specs.declared.layers.Frame.{Frame}
 
 -- phases below a turn
 pub record Reduced (xs : List ℕ) : Type 0 where
   pub below : (i : ℕ) → i < length xs → getD xs i 0 < turn
 
--- some rows, columns and blocks, few enough to be counted; phases below a turn, and nothing added to the first block
-pub record Drawn (y : Layer) : Type 0 where
-  pub rows : (1 ≤ y .rows) × (y .rows ≤ 16)
-  pub columns : (1 ≤ y .columns) × (y .columns ≤ 4)
-  pub blocks : (1 ≤ y .blocks) × (y .blocks ≤ 4)
-  pub across : y .across < turn
-  pub down : y .down < turn
-  pub first : getD (y .co) 0 0 ≡ 0
-  pub co : Reduced (y .co)
+-- sixteen places, all below a turn, with the phases of xs in front
+pub record Holds (xs b : List ℕ) : Type 0 where
+  pub places : length b ≡ 16
+  pub reduced : Reduced b
+  pub front : take (length xs) b ≡ map phase xs
 
--- its column, and how many entries that has
-abbrev pub columnIn : Layer → List ℕ
-columnIn y = column (take (y .blocks) (y .co)) (grid (y .rows) (y .across) (y .columns) (y .down))
-
-abbrev pub size : Layer → ℕ
-size y = y .blocks * (y .rows * y .columns)
+-- a cursor one entry on, in rows of w entries: `down` more, or at the start of the next row `across` more than at the start
+-- of this one
+unfoldable pub after : ℕ → ℕ → ℕ → Cursor → Cursor
+after w across down c =
+    eqb (c .left) 1 ⇒ record { left = w; start = phase (c .start + across); next = phase (c .start + across) }
+    ∣ record { left = c .left - 1; start = c .start; next = phase (c .next + down) }
 
 -- what the layers of a report have in common
 pub record Framed (r : Report) (s : Frame) : Type 0 where
@@ -41,8 +40,17 @@ pub record Framed (r : Report) (s : Frame) : Type 0 where
   pub f : s .f ≡ phase (fOf r)
   pub t : s .t ≡ phase (tOf r)
 
--- the definition's layer x of a report: an entry for each port, and its column
+-- the phases of a block for the beam at a place
+abbrev pub blockAt : Report → ℕ → List ℕ
+blockAt r place = block r (getD (beams r) place (beam 0 0))
+
+-- the definition's layer x of a report, by a place and co-phases
 pub record Draws (r : Report) (x : Planned) (y : Layer) : Type 0 where
-  pub drawn : Drawn y
-  pub size : size y ≡ ports (r .n1) (r .n2)
-  pub same : columnIn y ≡ columnOf r x
+  pub few : y .place < 4
+  pub first : getD (y .co) 0 0 ≡ 0
+  pub reduced : Reduced (y .co)
+  pub same : column (take (blocks r) (y .co)) (blockAt r (y .place)) ≡ columnOf r x
+
+-- what stands of a beam that was drawn, if one was
+pub record Stands (r : Report) (drawn : ℕ) (b : List ℕ) : Type 0 where
+  pub held : drawn < 4 → Holds (blockAt r drawn) b

@@ -1,22 +1,11 @@
-// Columns, written into a lent buffer: the first block by steps, every other block from the first.
+// Beams, and columns made of them: the first block is the beam, and every other block is made from it.
 ghost use mathlib.Core.Path.{_≡_};
-ghost use mathlib.Core.List.{[], _∷_, _++_, map};
+ghost use mathlib.Core.List.{[], _∷_, _++_};
 ghost use Prim.Native.Nat.{_+_, _*_, _<_, _≤_};
 ghost use lib.ListN.{length, take, drop, getD};
 ghost use Rattle.turn.specs.Phase.{turn, phase};
-ghost use Rattle.turn.specs.Column.{steps, column};
-ghost use Rattle.precoder.specs.Layer.{Reduced, Drawn, columnIn, size};
-
-// A layer as it is written: `blocks` blocks of `rows` by `columns` entries, `across` more from row to row and `down`
-// more from entry to entry; to block q the co-phase `co[q]` is added.
-pub struct Layer {
-    pub rows: usize,
-    pub columns: usize,
-    pub across: u8,
-    pub down: u8,
-    pub blocks: usize,
-    pub co: [u8; 4],
-}
+ghost use Rattle.turn.specs.Column.{grid, column};
+ghost use Rattle.precoder.specs.Layer.{Reduced, Holds, after};
 
 // The phase x turned by c, in bytes alone.
 fn turned(x: u8, c: u8) -> u8
@@ -30,72 +19,111 @@ fn turned(x: u8, c: u8) -> u8
     x - rest
 }
 
-// The first row: n entries, each `step` more.
-fn first_row(out: &mut [u8], n: usize, step: u8)
-    requires { ⌜ (n ≤ length (now out)) × (step < turn) ⌝ }
-    ensures { λ _. ⌜ now (out .exit) ≡ map phase (steps n step) ++ drop n (now (out .entry)) ⌝ }
+// Where a beam is drawn: how many entries are left in the row, the phase at the start of the row, and the phase of the next
+// entry.
+pub struct Cursor {
+    pub left: usize,
+    pub start: u32,
+    pub next: u32,
+}
+
+// The phase x turned by c, in 32 bits.
+fn stepped(x: u32, c: u32) -> u32
+    requires { ⌜ (x < turn) × (c < turn) ⌝ }
+    ensures { λ r. ⌜ r ≡ phase (x + c) ⌝ }
 {
-    let mut x = 0;
-    let mut b = 0;
-    while b < n {
-        out[b] = x;
-        x = turned(x, step);
-        b += 1;
+    let sum = x + c;
+    if sum < turn::TURN as u32 {
+        return sum;
+    }
+    sum - turn::TURN as u32
+}
+
+// The cursor one entry on, in rows of w entries: in the same row `down` more, and in the next row `across` more than at the
+// start of this one.
+fn advanced(c: Cursor, w: usize, across: u32, down: u32) -> Cursor
+    requires { ⌜ (1 ≤ c .left) × (c .start < turn) × (c .next < turn) × (across < turn) × (down < turn) ⌝ }
+    ensures { λ r. ⌜ r ≡ after w across down c ⌝ }
+{
+    if c.left == 1 {
+        let start = stepped(c.start, across);
+        return Cursor {
+            left: w,
+            start: start,
+            next: start,
+        };
+    }
+    let left = c.left - 1;
+    let next = stepped(c.next, down);
+    Cursor {
+        left: left,
+        start: c.start,
+        next: next,
     }
 }
 
-// The rows after the first, n rows of w entries in all: each is the row before it, turned by `step`.
-fn other_rows(out: &mut [u8], w: usize, n: usize, step: u8)
-    requires { ⌜ (1 ≤ n) × (1 ≤ w) × (n * w ≤ length (now out)) × (step < turn) × Reduced (take w (now out)) ⌝ }
-    ensures { λ _. ⌜ now (out .exit)
-        ≡ column (steps n step) (take w (now (out .entry))) ++ drop (n * w) (now (out .entry)) ⌝ }
+// A beam: n rows of w entries, `down` more from entry to entry and `across` more from row to row. It has sixteen places,
+// the most that a beam needs, so that what reads it has the same number of steps whatever the setting.
+pub fn draw(n: usize, w: usize, across: u32, down: u32) -> [u8; 16]
+    requires { ⌜ (1 ≤ w) × (n * w ≤ 16) × (across < turn) × (down < turn) ⌝ }
+    ensures { λ b. ⌜ Holds (grid n across w down) b ⌝ }
 {
+    let mut beam = [0; 16];
     let end = n * w;
-    let mut i = w;
+    let mut c = Cursor {
+        left: w,
+        start: 0,
+        next: 0,
+    };
+    let mut i = 0;
     while i < end {
-        let x = out[i - w];
-        out[i] = turned(x, step);
+        beam[i] = c.next as u8;
+        c = advanced(c, w, across, down);
+        i += 1;
+    }
+    beam
+}
+
+// Sixteen entries from place `at` on: the beam as it is.
+fn put(out: &mut [u8], at: usize, beam: [u8; 16])
+    requires { ⌜ at + 16 ≤ length (now out) ⌝ }
+    ensures { λ _. ⌜ now (out .exit) ≡ take at (now (out .entry)) ++ beam ++ drop (at + 16) (now (out .entry)) ⌝ }
+{
+    let mut i = 0;
+    while i < 16 {
+        out[at + i] = beam[i];
         i += 1;
     }
 }
 
-// One block more: the first w entries, turned by c, from place `at` on.
-fn block(out: &mut [u8], w: usize, at: usize, c: u8)
-    requires { ⌜ (w ≤ at) × (at + w ≤ length (now out)) × (c < turn) × Reduced (take w (now out)) ⌝ }
+// Sixteen entries from place `at` on: the beam turned by c.
+fn block(out: &mut [u8], at: usize, beam: [u8; 16], c: u8)
+    requires { ⌜ (at + 16 ≤ length (now out)) × (c < turn) × Reduced beam ⌝ }
     ensures { λ _. ⌜ now (out .exit)
-        ≡ take at (now (out .entry)) ++ column (c ∷ []) (take w (now (out .entry))) ++ drop (at + w) (now (out .entry)) ⌝ }
+        ≡ take at (now (out .entry)) ++ column (c ∷ []) beam ++ drop (at + 16) (now (out .entry)) ⌝ }
 {
     let mut i = 0;
-    while i < w {
-        let x = out[i];
+    while i < 16 {
+        let x = beam[i];
         out[at + i] = turned(x, c);
         i += 1;
     }
 }
 
-// The blocks after the first, n blocks of w entries in all: block q is the first turned by co[q].
-fn other_blocks(out: &mut [u8], w: usize, n: usize, co: [u8; 4])
-    requires { ⌜ (1 ≤ n) × (n ≤ 4) × (n * w ≤ length (now out)) × (getD co 0 0 ≡ 0)
-        × Reduced co × Reduced (take w (now out)) ⌝ }
-    ensures { λ _. ⌜ now (out .exit) ≡ column (take n co) (take w (now (out .entry))) ++ drop (n * w) (now (out .entry)) ⌝ }
+// A column from place `at` on: n blocks of w entries, block q the beam turned by co[q]. A block is written with all sixteen
+// places of the beam, and the next one over those past its w entries, so that up to sixteen entries after the column change.
+pub fn blocks(out: &mut [u8], at: usize, w: usize, n: usize, beam: [u8; 16], co: [u8; 4])
+    requires { ⌜ (w ≤ 16) × (1 ≤ n) × (n ≤ 4) × (at + n * w + 16 ≤ length (now out)) × (getD co 0 0 ≡ 0)
+        × Reduced co × Reduced beam ⌝ }
+    ensures { λ _. ⌜ take (at + n * w) (now (out .exit))
+        ≡ take at (now (out .entry)) ++ column (take n co) (take w beam) ⌝ }
 {
+    put(out, at, beam);
     let mut q = 1;
-    let mut at = w;
+    let mut to = at + w;
     while q < n {
-        block(out, w, at, co[q]);
-        at += w;
+        block(out, to, beam, co[q]);
+        to += w;
         q += 1;
     }
-}
-
-// A whole layer: its column, and what was lent after it.
-pub fn fill(out: &mut [u8], y: Layer)
-    requires { ⌜ Drawn y × (size y ≤ length (now out)) ⌝ }
-    ensures { λ _. ⌜ now (out .exit) ≡ columnIn y ++ drop (size y) (now (out .entry)) ⌝ }
-{
-    let w = y.rows * y.columns;
-    first_row(out, y.columns, y.down);
-    other_rows(out, y.columns, y.rows, y.across);
-    let co = y.co;
-    other_blocks(out, w, y.blocks, co);
 }

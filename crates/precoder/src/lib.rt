@@ -2,6 +2,9 @@
 use codebook::Report;
 use weight::Weight;
 ghost use mathlib.Core.Path.{_≡_};
+ghost use mathlib.Core.List.{_++_};
+ghost use Prim.Native.Nat.{_≤_};
+ghost use lib.ListN.{length, take, drop};
 ghost use Rattle.codebook.specs.Refusals.{InRange};
 ghost use Rattle.precoder.specs.Answer.{recordOf, Phases, Weights};
 
@@ -19,8 +22,8 @@ pub struct Record {
     pub scale: u32,
 }
 
-// The entries of the largest matrix: 8 layers of 32 ports.
-const MOST: usize = 256;
+// The entries of the largest matrix, 8 layers of 32 ports, and sixteen more, over which the last block may be written.
+const MOST: usize = 256 + 16;
 
 // The record of a refused report.
 fn refused(number: u32) -> Record
@@ -50,6 +53,18 @@ fn accepted(r: Report) -> Record
     }
 }
 
+// The first n phases, as they are.
+fn copy(phases: &[u8], n: usize, out: &mut [u8])
+    requires { ⌜ (n ≤ length (now phases)) × (n ≤ length (now out)) ⌝ }
+    ensures { λ _. ⌜ now (out .exit) ≡ take n (now (phases .entry)) ++ drop n (now (out .entry)) ⌝ }
+{
+    let mut i = 0;
+    while i < n {
+        out[i] = phases[i];
+        i += 1;
+    }
+}
+
 // Writes the phases of a report's precoder, in parts of a turn: layer after layer, each of P entries. `beams` is the beam
 // mask and `ranks` the rank mask: a report that reads a zero bit is refused. A refusal is given by its number and leaves
 // the buffer as lent; entries past an answer stay as lent too. Nothing is pulled into range: every setting, mask, report
@@ -61,8 +76,11 @@ pub fn phases(r: Report, beams: &[u8], ranks: u8, out: &mut [u8]) -> Record
     if c.refusal != 0 {
         return refused(c.refusal);
     }
-    layers::matrix(r, c, out);
-    accepted(r)
+    let mut phases = [0; MOST];
+    layers::matrix(r, c, &mut phases);
+    let a = accepted(r);
+    copy(&phases, a.scale as usize, out);
+    a
 }
 
 // Writes the weights of a report's precoder: for each entry that `phases` writes, x and then y, the pair of the table at

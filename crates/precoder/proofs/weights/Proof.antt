@@ -8,7 +8,7 @@ use borrow.Author.Needs.{needs}
 use Rattle.codebook.specs.Refusals.{refusal, judged}
 use Rattle.precoder.specs.declared.Record.{Record}
 use Rattle.precoder.proofs.Answers.{refused-answers, judged-accepted, judged-choice, accepted-answers}
-use Rattle.precoder.proofs.Expanded.{entries-few, length-weights, front-fits, front-reduced, front-weights}
+use Rattle.precoder.proofs.Expanded.{entries-few, length-weights, front-reduced, front-weights}
 use Rattle.precoder.proofs.weights.Statement.{statement}
 use Rattle.precoder.proofs.weights.Tie as tie
 
@@ -35,7 +35,7 @@ matrix-requires c κs =
     let judge = judged-as (c .before .before .before) in
     let z = c .before .if1 .left in
     let h = judged-accepted _ _ _ _ judge z .in-range in
-    (h, judged-choice _ _ _ _ judge z, entries-few _ h)
+    (h, judged-choice _ _ _ _ judge z, omega (arith, entries-few _ h))
 
 accepted-requires : tie.Need-accepted-requires
 accepted-requires c κs =
@@ -62,9 +62,9 @@ expand-requires c κs =
     let scale = ap (λ (x : Record). x .scale) (t .before .accepted .ensures) in
     let written = t .before .before .before .matrix .ensures in (
       t .table .ensures,
-      front-fits _ (a .in-range) _ _ scale written,
+      omega (arith, entries-few _ (a .in-range), scale, t .before .before .before .matrix .kept),
       omega (arith, a .fits, scale),
-      front-reduced _ (a .in-range) _ _ scale written,
+      front-reduced _ _ _ scale written,
     )
 
 same-length : tie.Need-same-length
@@ -81,7 +81,7 @@ returns-2 c =
     let written = t .before .before .before .matrix .ensures in
     accepted-answers _ _ _ _ judge z _ _ _ (t .before .accepted .ensures)
     (length-weights _ h ∙ ap (λ n. 2 * n) (sym scale))
-    (front-weights _ h _ _ scale written _ (c .before .expand .ensures))
+    (front-weights _ _ _ scale written _ (c .before .expand .ensures))
 
 pub weights-spec : {M : Type 1} → statement M
 weights-spec =

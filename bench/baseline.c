@@ -1,0 +1,237 @@
+// The whole job in plain C, written by hand: what the instructions of aspenflick_phases and aspenflick_weights are
+// compared with.
+#include "aspenflick.h"
+
+aspenflick_record baseline_phases(aspenflick_report r, const uint8_t *beams, size_t beams_len, uint8_t ranks,
+                                  uint8_t *out, size_t out_len);
+aspenflick_record baseline_weights(aspenflick_report r, const uint8_t *beams, size_t beams_len, uint8_t ranks,
+                                   int16_t *out, size_t out_len);
+
+enum { TURN = 192, HALF = TURN / 2, QUARTER = TURN / 4, EIGHTH = TURN / 8 };
+enum { MOST_N1 = 16, MOST_N2 = 4, MOST_V = 8, MOST_ENTRIES = 256 };
+
+typedef struct { uint8_t l, m; } beam;
+
+// An accepted report: rows by columns of its beams, its blocks of ports, f and t, and B, B', B'', B''', reduced.
+typedef struct {
+    uint8_t ports, rows, columns, blocks, f, t;
+    beam beams[4];
+} plan;
+
+// P by N2 and N1, and 0 where (N1,N2) is not a setting.
+static const uint8_t ports_of[MOST_N2 + 1][MOST_N1 + 1] = {
+    [1] = {[1] = 2, [2] = 4, [4] = 8, [6] = 12, [8] = 16, [12] = 24, [16] = 32},
+    [2] = {[2] = 8, [3] = 12, [4] = 16, [6] = 24, [8] = 32},
+    [3] = {[4] = 24},
+    [4] = {[4] = 32},
+};
+
+// The phase for one step of l or m by N1 or N2. In a direction of one antenna l or m is 0.
+static const uint8_t step_of[MOST_N1 + 1] = {
+    [2] = 24, [3] = 16, [4] = 12, [6] = 8, [8] = 6, [12] = 4, [16] = 3,
+};
+
+// The rows of k in steps of (O1,O2): for N1 > N2 > 1, for N1 = N2, and for N2 = 1.
+static const beam k_two_wide[4] = {{0, 0}, {1, 0}, {0, 1}, {2, 0}};
+static const beam k_two_square[4] = {{0, 0}, {1, 0}, {0, 1}, {1, 1}};
+static const beam k_two_line[4] = {{0, 0}, {1, 0}, {2, 0}, {3, 0}};
+
+// Those for three and four layers. Smaller settings have the first of them.
+static const beam k_three_wide[4] = {{1, 0}, {0, 1}, {1, 1}, {2, 0}};
+static const beam k_three_line[4] = {{1, 0}, {2, 0}, {3, 0}, {4, 0}};
+
+// The steps from B to B', B'' and B''' for five and more layers.
+static const beam k_six_wide[2] = {{1, 0}, {1, 1}};
+static const beam k_eight_wide[3] = {{1, 0}, {0, 1}, {1, 1}};
+static const beam k_many_line[3] = {{1, 0}, {2, 0}, {3, 0}};
+
+// A layer: the place of its beam, how many times f is added to the second polarisation, and what else is.
+typedef struct { uint8_t place, times_f, added; } column;
+
+static const column columns_of[MOST_V + 1][MOST_V] = {
+    [1] = {{0, 1, 0}},
+    [2] = {{0, 1, 0}, {1, 1, HALF}},
+    [3] = {{0, 1, 0}, {1, 1, 0}, {0, 1, HALF}},
+    [4] = {{0, 1, 0}, {1, 1, 0}, {0, 1, HALF}, {1, 1, HALF}},
+    [5] = {{0, 1, 0}, {0, 1, HALF}, {1, 0, 0}, {1, 0, HALF}, {2, 0, 0}},
+    [6] = {{0, 1, 0}, {0, 1, HALF}, {1, 1, 0}, {1, 1, HALF}, {2, 0, 0}, {2, 0, HALF}},
+    [7] = {{0, 1, 0}, {0, 1, HALF}, {1, 1, 0}, {2, 0, 0}, {2, 0, HALF}, {3, 0, 0}, {3, 0, HALF}},
+    [8] = {{0, 1, 0}, {0, 1, HALF}, {1, 1, 0}, {1, 1, HALF}, {2, 0, 0}, {2, 0, HALF}, {3, 0, 0}, {3, 0, HALF}},
+};
+
+// 16384 times cosine and sine of each phase, to the nearest whole number.
+static const int16_t weight_of[TURN][2] = {
+    {16384, 0}, {16375, 536}, {16349, 1072}, {16305, 1606}, {16244, 2139}, {16165, 2669}, {16069, 3196}, {15956, 3720},
+    {15826, 4240}, {15679, 4756}, {15515, 5266}, {15334, 5771}, {15137, 6270}, {14924, 6762}, {14694, 7246},
+    {14449, 7723}, {14189, 8192}, {13913, 8652}, {13623, 9102}, {13318, 9543}, {12998, 9974}, {12665, 10394},
+    {12318, 10803}, {11958, 11200}, {11585, 11585}, {11200, 11958}, {10803, 12318}, {10394, 12665}, {9974, 12998},
+    {9543, 13318}, {9102, 13623}, {8652, 13913}, {8192, 14189}, {7723, 14449}, {7246, 14694}, {6762, 14924},
+    {6270, 15137}, {5771, 15334}, {5266, 15515}, {4756, 15679}, {4240, 15826}, {3720, 15956}, {3196, 16069},
+    {2669, 16165}, {2139, 16244}, {1606, 16305}, {1072, 16349}, {536, 16375}, {0, 16384}, {-536, 16375}, {-1072, 16349},
+    {-1606, 16305}, {-2139, 16244}, {-2669, 16165}, {-3196, 16069}, {-3720, 15956}, {-4240, 15826}, {-4756, 15679},
+    {-5266, 15515}, {-5771, 15334}, {-6270, 15137}, {-6762, 14924}, {-7246, 14694}, {-7723, 14449}, {-8192, 14189},
+    {-8652, 13913}, {-9102, 13623}, {-9543, 13318}, {-9974, 12998}, {-10394, 12665}, {-10803, 12318}, {-11200, 11958},
+    {-11585, 11585}, {-11958, 11200}, {-12318, 10803}, {-12665, 10394}, {-12998, 9974}, {-13318, 9543}, {-13623, 9102},
+    {-13913, 8652}, {-14189, 8192}, {-14449, 7723}, {-14694, 7246}, {-14924, 6762}, {-15137, 6270}, {-15334, 5771},
+    {-15515, 5266}, {-15679, 4756}, {-15826, 4240}, {-15956, 3720}, {-16069, 3196}, {-16165, 2669}, {-16244, 2139},
+    {-16305, 1606}, {-16349, 1072}, {-16375, 536}, {-16384, 0}, {-16375, -536}, {-16349, -1072}, {-16305, -1606},
+    {-16244, -2139}, {-16165, -2669}, {-16069, -3196}, {-15956, -3720}, {-15826, -4240}, {-15679, -4756},
+    {-15515, -5266}, {-15334, -5771}, {-15137, -6270}, {-14924, -6762}, {-14694, -7246}, {-14449, -7723},
+    {-14189, -8192}, {-13913, -8652}, {-13623, -9102}, {-13318, -9543}, {-12998, -9974}, {-12665, -10394},
+    {-12318, -10803}, {-11958, -11200}, {-11585, -11585}, {-11200, -11958}, {-10803, -12318}, {-10394, -12665},
+    {-9974, -12998}, {-9543, -13318}, {-9102, -13623}, {-8652, -13913}, {-8192, -14189}, {-7723, -14449},
+    {-7246, -14694}, {-6762, -14924}, {-6270, -15137}, {-5771, -15334}, {-5266, -15515}, {-4756, -15679},
+    {-4240, -15826}, {-3720, -15956}, {-3196, -16069}, {-2669, -16165}, {-2139, -16244}, {-1606, -16305},
+    {-1072, -16349}, {-536, -16375}, {0, -16384}, {536, -16375}, {1072, -16349}, {1606, -16305}, {2139, -16244},
+    {2669, -16165}, {3196, -16069}, {3720, -15956}, {4240, -15826}, {4756, -15679}, {5266, -15515}, {5771, -15334},
+    {6270, -15137}, {6762, -14924}, {7246, -14694}, {7723, -14449}, {8192, -14189}, {8652, -13913}, {9102, -13623},
+    {9543, -13318}, {9974, -12998}, {10394, -12665}, {10803, -12318}, {11200, -11958}, {11585, -11585}, {11958, -11200},
+    {12318, -10803}, {12665, -10394}, {12998, -9974}, {13318, -9543}, {13623, -9102}, {13913, -8652}, {14189, -8192},
+    {14449, -7723}, {14694, -7246}, {14924, -6762}, {15137, -6270}, {15334, -5771}, {15515, -5266}, {15679, -4756},
+    {15826, -4240}, {15956, -3720}, {16069, -3196}, {16165, -2669}, {16244, -2139}, {16305, -1606}, {16349, -1072},
+    {16375, -536},
+};
+
+// The sum of two phases, both below a turn.
+static inline uint8_t turned(uint8_t phase, uint8_t by) {
+    uint8_t rest = TURN - by;
+    return phase < rest ? phase + by : phase - rest;
+}
+
+static inline int mask_bit(const uint8_t *mask, unsigned k) { return mask[k / 8] >> k % 8 & 1; }
+
+static uint32_t i13_values(unsigned ports, unsigned v, int half_length) {
+    if (half_length) return 4;
+    if (ports == 2 || v == 1 || v > 4) return 1;
+    if (v == 2) return ports == 4 ? 2 : 4;
+    return ports == 4 ? 1 : ports == 8 ? 3 : 4;
+}
+
+// The steps from B to the beams after it.
+static const beam *steps_of(const aspenflick_report *r) {
+    switch (r->v) {
+    case 2: return (r->n2 == 1 ? k_two_line : r->n1 == r->n2 ? k_two_square : k_two_wide) + r->i13;
+    case 3:
+    case 4: return (r->n2 == 1 ? k_three_line : k_three_wide) + r->i13;
+    case 5:
+    case 6: return r->n2 == 1 ? k_many_line : k_six_wide;
+    default: return r->n2 == 1 ? k_many_line : k_eight_wide;
+    }
+}
+
+// Gives the first refusal that applies, or 0 and the plan.
+static uint32_t judge(const aspenflick_report *r, const uint8_t *mask, size_t mask_len, uint8_t ranks, size_t room,
+                      plan *p) {
+    if (r->n1 > MOST_N1 || r->n2 > MOST_N2) return 1;
+    unsigned ports = ports_of[r->n2][r->n1];
+    if (ports == 0) return 1;
+    if (r->mode != 1 && r->mode != 2) return 2;
+    int two_ports = ports == 2;
+    unsigned across = two_ports ? 1 : 4 * r->n1, down = r->n2 == 1 ? 1 : 4 * r->n2;
+    if (mask_len != (two_ports ? 1 : across * down / 8)) return 3;
+    unsigned v = r->v;
+    if (v == 0 || v > MOST_V || v > ports) return 4;
+    if (!(ranks >> (v - 1) & 1)) return 5;
+
+    int mode_two = r->mode == 2 && v <= 2 && !two_ports;
+    int half_length = ports >= 16 && (v == 3 || v == 4);
+    int halves_i11 = mode_two || half_length || (v >= 7 && r->n1 == 4 && r->n2 == 1);
+    int halves_i12 = r->n2 > 1 && (mode_two || (v >= 7 && r->n1 > 2 && r->n2 == 2));
+    if (r->i11 >= across >> halves_i11) return 6;
+    if (r->i12 >= down >> halves_i12) return 7;
+    if (r->i13 >= i13_values(ports, v, half_length)) return 8;
+    if (r->i2 >= (v == 1 ? 4u : 2u) << (mode_two ? 2 : 0)) return 9;
+
+    unsigned l = r->i11, m = r->i12, n = r->i2;
+    if (mode_two) {
+        unsigned bits = v == 1 ? 2 : 1, q = n >> bits;
+        n &= (1u << bits) - 1;
+        l = 2 * l + (r->n2 > 1 ? q & 1 : q);
+        m = r->n2 > 1 ? 2 * m + (q >> 1) : 0;
+    } else if (half_length) {
+        l = 2 * l;
+    }
+
+    unsigned used = v == 1 || half_length ? 1 : v <= 4 ? 2 : v <= 6 ? 3 : 4;
+    const beam *k = steps_of(r);
+    for (unsigned i = 0; i < used; i++) {
+        // No sum reaches twice the beams of its direction.
+        unsigned x = i ? l + 4 * k[i - 1].l : l, y = i ? m + 4 * k[i - 1].m : m;
+        if (x >= across) x -= across;
+        if (y >= down) y -= down;
+        p->beams[i] = (beam){x, y};
+        unsigned bit = two_ports ? (v == 1 ? n : 4 + n) : down * x + y;
+        if (!mask_bit(mask, bit)) return 10;
+    }
+    if (room < v * ports) return 11;
+
+    p->ports = ports;
+    p->blocks = half_length ? 4 : 2;
+    p->rows = half_length ? r->n1 / 2 : r->n1;
+    p->columns = r->n2;
+    p->f = n * QUARTER;
+    p->t = r->i13 * EIGHTH;
+    return 0;
+}
+
+// Writes a beam: the first row by steps of `down`, and every other row from the one before it.
+static void write_beam(uint8_t *out, size_t rows, size_t columns, uint8_t across, uint8_t down) {
+    uint8_t phase = 0;
+    for (size_t i = 0; i < columns; i++) {
+        out[i] = phase;
+        phase = turned(phase, down);
+    }
+    for (size_t i = columns; i < rows * columns; i++) out[i] = turned(out[i - columns], across);
+}
+
+static void write_turned(uint8_t *restrict out, const uint8_t *restrict block, size_t n, uint8_t by) {
+    for (size_t i = 0; i < n; i++) out[i] = turned(block[i], by);
+}
+
+// Writes every layer: its first block as a beam, and the others from it.
+static void write_layers(const aspenflick_report *r, const plan *p, uint8_t *out) {
+    size_t size = p->rows * p->columns;
+    for (size_t j = 0; j < r->v; j++, out += p->ports) {
+        const column *c = &columns_of[r->v][j];
+        const beam *b = &p->beams[p->blocks == 4 ? 0 : c->place];
+        write_beam(out, p->rows, p->columns, b->l * step_of[r->n1], b->m * step_of[r->n2]);
+        uint8_t second = c->times_f ? turned(p->f, c->added) : c->added;
+        if (p->blocks == 2) {
+            write_turned(out + size, out, size, second);
+        } else {
+            uint8_t quarter = turned(p->t, c->place ? HALF : 0);
+            write_turned(out + size, out, size, quarter);
+            write_turned(out + 2 * size, out, 2 * size, second);
+        }
+    }
+}
+
+static aspenflick_record refused(uint32_t refusal) { return (aspenflick_record){refusal, 0, 0, 0}; }
+
+static aspenflick_record accepted(const aspenflick_report *r, const plan *p) {
+    return (aspenflick_record){0, p->ports, r->v, r->v * p->ports};
+}
+
+aspenflick_record baseline_phases(aspenflick_report r, const uint8_t *beams, size_t beams_len, uint8_t ranks,
+                                  uint8_t *out, size_t out_len) {
+    plan p;
+    uint32_t refusal = judge(&r, beams, beams_len, ranks, out_len, &p);
+    if (refusal) return refused(refusal);
+    write_layers(&r, &p, out);
+    return accepted(&r, &p);
+}
+
+aspenflick_record baseline_weights(aspenflick_report r, const uint8_t *beams, size_t beams_len, uint8_t ranks,
+                                   int16_t *out, size_t out_len) {
+    plan p;
+    uint32_t refusal = judge(&r, beams, beams_len, ranks, out_len / 2, &p);
+    if (refusal) return refused(refusal);
+    uint8_t phases[MOST_ENTRIES];
+    write_layers(&r, &p, phases);
+    aspenflick_record record = accepted(&r, &p);
+    for (size_t i = 0; i < record.scale; i++) {
+        out[2 * i] = weight_of[phases[i]][0];
+        out[2 * i + 1] = weight_of[phases[i]][1];
+    }
+    return record;
+}

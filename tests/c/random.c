@@ -1,0 +1,375 @@
+// Makes random calls of aspenflick_phases and aspenflick_weights and checks what comes of each, also against a second
+// implementation, baseline_phases and baseline_weights; then seeds faults into such calls and checks that each is seen.
+//
+//     random COUNT SEED
+//
+// COUNT is the number of requests for each function, SEED where the generator starts. For each check the first request
+// that fails it is printed. The last line is `N passed, M failed`; the exit status is 0 only if M is 0.
+// Freestanding: of the C library only printf, memcpy and memcmp.
+#include <stdio.h>
+#include "aspenflick.h"
+
+void *memcpy(void *, const void *, size_t);
+int memcmp(const void *, const void *, size_t);
+
+aspenflick_record baseline_phases(aspenflick_report r, const uint8_t *beams, size_t beams_len, uint8_t ranks,
+                                  uint8_t *out, size_t out_len);
+aspenflick_record baseline_weights(aspenflick_report r, const uint8_t *beams, size_t beams_len, uint8_t ranks,
+                                   int16_t *out, size_t out_len);
+
+enum { PHASES, WEIGHTS, FUNCTIONS };
+static const char *const function_names[FUNCTIONS] = {"phases", "weights"};
+
+enum { REFUSALS = 11, TURN = 192 };
+static const uint32_t SQUARED = 16384 * 16384, POWER_LIMIT = 32768;
+enum { MOST = 600, GUARD = 32, PLACES = 64, ROOM = PLACES + GUARD + 2 * MOST + GUARD + 8 };
+
+// The generator is splitmix64.
+static uint64_t state;
+
+static uint64_t draw(void) {
+    uint64_t z = state += 0x9e3779b97f4a7c15;
+    z = (z ^ z >> 30) * 0xbf58476d1ce4e5b9;
+    z = (z ^ z >> 27) * 0x94d049bb133111eb;
+    return z ^ z >> 31;
+}
+
+static uint32_t below(uint32_t bound) { return (uint32_t)((draw() >> 32) * bound >> 32); }
+
+// What is asked in one call, but for the bits of the beam mask. The buffer's length counts bytes or 16-bit numbers.
+typedef struct {
+    aspenflick_report report;
+    uint8_t ranks;
+    size_t beams_len, out_len;
+} request;
+
+static const struct { uint8_t n1, n2; } settings[] = {
+    {1, 1}, {2, 1}, {2, 2}, {4, 1}, {3, 2}, {6, 1}, {4, 2}, {8, 1}, {4, 3}, {6, 2}, {12, 1}, {4, 4}, {8, 2}, {16, 1},
+};
+enum { SETTINGS = sizeof settings / sizeof settings[0] };
+
+// The usual number but for nine chances: one at the bound, one that 8 or 16 bits would cut down to the usual one, or any.
+static uint32_t vary(uint32_t usual, uint32_t bound, uint32_t chances) {
+    switch (below(chances)) {
+    case 0: return bound - 1;
+    case 1: return bound;
+    case 2: return bound + 1;
+    case 3: return usual + 1;
+    case 4: return usual - 1;
+    case 5: return below(2 * bound + 2);
+    case 6: return usual + ((1 + below(255)) << 8);
+    case 7: return usual + ((1 + below(65535)) << 16);
+    case 8: return (uint32_t)draw();
+    default: return usual;
+    }
+}
+
+// The length needed but for eight chances: one that is nearly so, one that 8 bits would cut down to it, none, or any.
+static size_t vary_length(uint32_t needed, uint32_t chances) {
+    switch (below(chances)) {
+    case 0: return needed - 1;
+    case 1: return needed + 1;
+    case 2: return needed > 1 ? needed - 2 : 0;
+    case 3: return needed + 2;
+    case 4: return needed + 256 <= MOST ? needed + 256 : needed;
+    case 5: return 0;
+    case 6:
+    case 7: return below(MOST + 1);
+    default: return needed;
+    }
+}
+
+// A request. The ranges from which its indices are drawn are not exact: whether it has to be refused is not known here.
+// Most have no fault or one, so that many are accepted; some have many, so that the order of the refusals is seen.
+static request any_request(int function) {
+    uint32_t setting = below(SETTINGS), n1 = settings[setting].n1, n2 = settings[setting].n2, ports = 2 * n1 * n2;
+    uint32_t mode = 1 + below(2), v = 1 + below(ports < 8 ? ports : 8);
+    uint32_t i11_bound = ports > 2 ? 4 * n1 >> below(2) : 1, i12_bound = n2 > 1 ? 4 * n2 >> below(2) : 1;
+    uint32_t i13_bound = ports > 2 && v >= 2 && v <= 4 ? 1 + below(4) : 1;
+    uint32_t i2_bound = (v == 1 ? 4 : 2) * (ports > 2 && mode == 2 && v <= 2 ? 4 : 1);
+    uint32_t chances = below(16) ? 192 : 32;
+    request q = {.ranks = 255};
+    q.report.n1 = vary(n1, 17, chances);
+    q.report.n2 = vary(n2, n1 + 1, chances);
+    q.report.mode = vary(mode, 3, chances);
+    q.report.v = vary(v, ports < 8 ? ports + 1 : 9, chances);
+    q.report.i11 = vary(below(i11_bound), i11_bound, chances);
+    q.report.i12 = vary(below(i12_bound), i12_bound, chances);
+    q.report.i13 = vary(below(i13_bound), i13_bound, chances);
+    q.report.i2 = vary(below(i2_bound), i2_bound, chances);
+    switch (below(16)) {
+    case 0: q.ranks = (uint8_t)draw(); break;
+    case 1: q.ranks = (uint8_t)(draw() | draw() | draw()); break;
+    case 2: q.ranks = (uint8_t)(1 << (v - 1)); break;
+    case 3: q.ranks = below(8) ? 255 : (uint8_t)~(1 << (v - 1)); break;
+    }
+    uint32_t beam_bits = ports > 2 ? 4 * n1 * (n2 > 1 ? 4 * n2 : 1) : 8;
+    q.beams_len = vary_length(beam_bits / 8, chances);
+    q.out_len = vary_length(v * ports * (function == WEIGHTS ? 2 : 1), 32);
+    return q;
+}
+
+// Bytes that are lent, between two guards, at any address that their numbers may have.
+typedef struct { _Alignas(PLACES) uint8_t room[ROOM]; } loan;
+
+// Where loans of one call start in their rooms, and how many bytes they have between the guards.
+typedef struct { size_t start, len; } extent;
+
+static uint8_t *inner(loan *l, extent e) { return l->room + e.start + GUARD; }
+static size_t whole(extent e) { return GUARD + e.len + GUARD; }
+static void copy(loan *to, const loan *from, extent e) { memcpy(to->room + e.start, from->room + e.start, whole(e)); }
+
+static int same_guards(const loan *a, const loan *b, extent e) {
+    const uint8_t *x = a->room + e.start, *y = b->room + e.start;
+    return !memcmp(x, y, GUARD) && !memcmp(x + GUARD + e.len, y + GUARD + e.len, GUARD);
+}
+
+// Fills a loan with random bytes. Guards hold nothing that the function answers, so that no number written there goes
+// unseen: no phase is 192 or above, and the upper byte of a weight is at most 64 or at least 192.
+static void fill(loan *l, extent e, int function) {
+    uint8_t *at = l->room + e.start;
+    for (size_t i = 0; i < whole(e); i += sizeof(uint64_t)) {
+        uint64_t word = draw();
+        memcpy(at + i, &word, sizeof word);
+    }
+    for (size_t i = 0; i < GUARD; i++) {
+        uint8_t *before = at + i, *behind = at + GUARD + e.len + i;
+        *before = (uint8_t)(*before % 64 + (function == WEIGHTS ? 96 : 192));
+        *behind = (uint8_t)(*behind % 64 + (function == WEIGHTS ? 96 : 192));
+    }
+}
+
+// Mostly all bits are ones, or nearly all; the rest is as drawn.
+static void make_beams(uint8_t *beams, size_t len) {
+    uint32_t kind = below(8), zeros = 1 + below(3);
+    for (size_t i = 0; i < len; i++) {
+        if (kind > 1) beams[i] = 255;
+        if (kind == 1) beams[i] = (uint8_t)(beams[i] | draw() | draw() >> 8);
+    }
+    if (len && (kind == 2 || kind == 3)) {
+        for (uint32_t k = 0; k < zeros; k++) beams[below((uint32_t)len)] &= (uint8_t)~(1 << below(8));
+    }
+}
+
+// The checks, each counted for itself.
+enum {
+    KNOWN, ZEROS, AS_LENT, RECORD, LEGAL, BEHIND, REPEATED, OUT_GUARDS, BEAMS_GUARDS, BEAMS, BASELINE_RECORD, BASELINE_OUT,
+    CHECKS
+};
+static const char *const check_names[CHECKS] = {
+    [KNOWN] = "the refusal is 0 to 11",
+    [ZEROS] = "refused: ports, layers and scale are 0",
+    [AS_LENT] = "refused: the buffer is as lent",
+    [RECORD] = "accepted: the record is 0, P, v, v*P",
+    [LEGAL] = "accepted: every entry is a phase, or a weight of due power",
+    [BEHIND] = "accepted: what is behind the answer is as lent",
+    [REPEATED] = "another fill changes nothing in record and answer",
+    [OUT_GUARDS] = "the buffer's guards stand",
+    [BEAMS_GUARDS] = "the mask's guards stand",
+    [BEAMS] = "the mask is as lent",
+    [BASELINE_RECORD] = "the record is that of the second implementation",
+    [BASELINE_OUT] = "the buffer is that of the second implementation",
+};
+
+// Faults, seeded into some calls, each with the check that has to see it.
+enum {
+    NONE, UNKNOWN_REFUSAL, PORTS_ON_REFUSAL, BYTE_ON_REFUSAL, WRONG_SCALE, NO_ENTRY, PAST_ANSWER, NOT_WRITTEN, BEFORE_OUT,
+    BEHIND_OUT, BEFORE_BEAMS, BEHIND_BEAMS, BEAMS_BYTE, OTHER_ORDER, OTHER_ENTRY, FAULTS
+};
+static const struct { const char *name; int seen_by; } faults[FAULTS] = {
+    [UNKNOWN_REFUSAL] = {"12 for the refusal 11", KNOWN},
+    [PORTS_ON_REFUSAL] = {"ports given on a refusal", ZEROS},
+    [BYTE_ON_REFUSAL] = {"a byte of the buffer changed on a refusal", AS_LENT},
+    [WRONG_SCALE] = {"the scale less by P", RECORD},
+    [NO_ENTRY] = {"an entry with all bits ones", LEGAL},
+    [PAST_ANSWER] = {"the byte behind the answer changed", BEHIND},
+    [NOT_WRITTEN] = {"an entry not written", REPEATED},
+    [BEFORE_OUT] = {"the byte before the buffer changed", OUT_GUARDS},
+    [BEHIND_OUT] = {"the byte behind the buffer changed", OUT_GUARDS},
+    [BEFORE_BEAMS] = {"the byte before the mask changed", BEAMS_GUARDS},
+    [BEHIND_BEAMS] = {"the byte behind the mask changed", BEAMS_GUARDS},
+    [BEAMS_BYTE] = {"a byte of the mask changed", BEAMS},
+    [OTHER_ORDER] = {"11 before 10", BASELINE_RECORD},
+    [OTHER_ENTRY] = {"the first entry in place of another", BASELINE_OUT},
+};
+enum { FAULTY = 20000 };
+
+static loan beams, beams_lent, out, out_lent, out_again, out_again_lent, out_baseline;
+static unsigned long long outcomes[FUNCTIONS][REFUSALS + 1], failures[FUNCTIONS][CHECKS];
+
+static aspenflick_record call(int function, const request *q, const uint8_t *mask, uint8_t *bytes) {
+    return function == WEIGHTS
+               ? aspenflick_weights(q->report, mask, q->beams_len, q->ranks, (int16_t *)(void *)bytes, q->out_len)
+               : aspenflick_phases(q->report, mask, q->beams_len, q->ranks, bytes, q->out_len);
+}
+
+// Spoils what a call has given, as a library with that fault would: twice alike. `choice` picks the byte or the entry.
+static aspenflick_record spoil(int fault, uint32_t choice, int function, const request *q, uint8_t *mask, uint8_t *bytes,
+                               const uint8_t *bytes_lent, aspenflick_record record) {
+    size_t entry = function == WEIGHTS ? 2 * sizeof(int16_t) : sizeof(uint8_t), scale = record.scale;
+    size_t len = function == WEIGHTS ? sizeof(int16_t) * q->out_len : q->out_len, beams_len = q->beams_len;
+    const uint8_t *mask_lent = beams_lent.room + (mask - beams.room);
+    if (record.refusal) {
+        size_t needed = entry * 2 * q->report.n1 * q->report.n2 * q->report.v;
+        if (fault == UNKNOWN_REFUSAL && record.refusal == 11) record.refusal = 12;
+        if (fault == PORTS_ON_REFUSAL) record.ports = 4;
+        if (fault == BYTE_ON_REFUSAL && len) bytes[choice % len] ^= 1;
+        if (fault == OTHER_ORDER && record.refusal == 10 && len < needed) record.refusal = 11;
+    } else {
+        uint8_t *some = bytes + choice % scale * entry;
+        if (fault == WRONG_SCALE) record.scale -= record.ports;
+        if (fault == NO_ENTRY) for (size_t i = 0; i < entry; i++) some[i] = 255;
+        if (fault == PAST_ANSWER && scale * entry < len) bytes[scale * entry] ^= 1;
+        if (fault == NOT_WRITTEN) memcpy(some, bytes_lent + (some - bytes), entry);
+        if (fault == OTHER_ENTRY) memcpy(some, bytes, entry);
+    }
+    if (fault == BEFORE_OUT) bytes[-1] ^= 1;
+    if (fault == BEHIND_OUT) bytes[len] ^= 1;
+    if (fault == BEFORE_BEAMS) mask[-1] = mask_lent[-1] ^ 1;
+    if (fault == BEHIND_BEAMS) mask[beams_len] = mask_lent[beams_len] ^ 1;
+    if (fault == BEAMS_BYTE && beams_len) mask[choice % beams_len] = mask_lent[choice % beams_len] ^ 1;
+    return record;
+}
+
+static aspenflick_record call_baseline(int function, const request *q, const uint8_t *mask, uint8_t *bytes) {
+    return function == WEIGHTS
+               ? baseline_weights(q->report, mask, q->beams_len, q->ranks, (int16_t *)(void *)bytes, q->out_len)
+               : baseline_phases(q->report, mask, q->beams_len, q->ranks, bytes, q->out_len);
+}
+
+static int same_record(aspenflick_record a, aspenflick_record b) {
+    return a.refusal == b.refusal && a.ports == b.ports && a.layers == b.layers && a.scale == b.scale;
+}
+
+// Whether every entry of an answer of so many bytes is a phase, or a weight whose power is near the square of 16384.
+static int legal(int function, const uint8_t *bytes, size_t len) {
+    int good = 1;
+    if (function == PHASES) {
+        for (size_t i = 0; i < len; i++) good &= bytes[i] < TURN;
+        return good;
+    }
+    for (size_t i = 0; i < len; i += 2 * sizeof(int16_t)) {
+        int16_t x, y;
+        memcpy(&x, bytes + i, sizeof x);
+        memcpy(&y, bytes + i + sizeof x, sizeof y);
+        uint32_t power = (uint32_t)(x * x) + (uint32_t)(y * y);
+        good &= SQUARED - POWER_LIMIT <= power && power <= SQUARED + POWER_LIMIT;
+    }
+    return good;
+}
+
+// One request: two calls and one of the second implementation. The fault is seeded into a quarter of them; then failures
+// are counted, but not printed.
+static void ask(int function, uint64_t number, int fault) {
+    request q = any_request(function);
+    size_t width = function == WEIGHTS ? sizeof(int16_t) : sizeof(uint8_t);
+    extent b = {below(PLACES), q.beams_len}, o = {width * below((uint32_t)(PLACES / width)), width * q.out_len};
+    fill(&beams_lent, b, function);
+    make_beams(inner(&beams_lent, b), b.len);
+    copy(&beams, &beams_lent, b);
+    fill(&out_lent, o, function);
+    copy(&out, &out_lent, o);
+    copy(&out_baseline, &out_lent, o);
+    // No byte of the other fill is as in the first one.
+    copy(&out_again_lent, &out_lent, o);
+    for (size_t i = 0; i < o.len; i++) inner(&out_again_lent, o)[i] ^= 255;
+    copy(&out_again, &out_again_lent, o);
+
+    uint8_t *mask = inner(&beams, b), *bytes = inner(&out, o), *bytes_again = inner(&out_again, o);
+    const uint8_t *bytes_lent = inner(&out_lent, o), *bytes_again_lent = inner(&out_again_lent, o);
+    aspenflick_record record = call(function, &q, mask, bytes), again = call(function, &q, mask, bytes_again);
+    aspenflick_record baseline = call_baseline(function, &q, inner(&beams_lent, b), inner(&out_baseline, o));
+    if (fault && below(4) == 0) {
+        uint32_t choice = (uint32_t)draw();
+        record = spoil(fault, choice, function, &q, mask, bytes, bytes_lent, record);
+        again = spoil(fault, choice, function, &q, mask, bytes_again, bytes_again_lent, again);
+    }
+
+    uint32_t ports = 2 * q.report.n1 * q.report.n2, scale = q.report.v * ports;
+    int refused = record.refusal != 0;
+    // Of an answer that is longer than the buffer no more can be looked at.
+    size_t answer = refused ? 0 : width * (function == WEIGHTS ? 2 : 1) * (size_t)scale;
+    if (answer > o.len) answer = o.len;
+    size_t rest = o.len - answer;
+    const int holds[CHECKS] = {
+        [KNOWN] = record.refusal <= REFUSALS,
+        [ZEROS] = !refused || !(record.ports | record.layers | record.scale),
+        [AS_LENT] = !refused || !memcmp(bytes, bytes_lent, o.len),
+        [RECORD] = refused || (record.ports == ports && record.layers == q.report.v && record.scale == scale),
+        [LEGAL] = refused || legal(function, bytes, answer),
+        [BEHIND] = refused || !memcmp(bytes + answer, bytes_lent + answer, rest),
+        [REPEATED] = same_record(record, again) && !memcmp(bytes, bytes_again, answer) &&
+                     !memcmp(bytes_again + answer, bytes_again_lent + answer, rest),
+        [OUT_GUARDS] = same_guards(&out, &out_lent, o) && same_guards(&out_again, &out_lent, o),
+        [BEAMS_GUARDS] = same_guards(&beams, &beams_lent, b),
+        [BEAMS] = !memcmp(mask, inner(&beams_lent, b), b.len),
+        [BASELINE_RECORD] = same_record(record, baseline),
+        [BASELINE_OUT] = !memcmp(bytes, inner(&out_baseline, o), o.len),
+    };
+    if (record.refusal <= REFUSALS) outcomes[function][record.refusal]++;
+    for (int check = 0; check < CHECKS; check++) {
+        if (holds[check] || failures[function][check]++ || fault) continue;
+        const aspenflick_report r = q.report;
+        printf("%s: request %llu fails `%s`: N1=%u N2=%u mode=%u v=%u i11=%u i12=%u i13=%u i2=%u ranks=%u, "
+               "%zu bytes of mask, room for %zu: %u %u %u %u, the second implementation %u %u %u %u\n",
+               function_names[function], (unsigned long long)number, check_names[check], r.n1, r.n2, r.mode, r.v, r.i11,
+               r.i12, r.i13, r.i2, q.ranks, q.beams_len, q.out_len, record.refusal, record.ports, record.layers,
+               record.scale, baseline.refusal, baseline.ports, baseline.layers, baseline.scale);
+    }
+}
+
+static void run(uint64_t count, int fault) {
+    for (int function = 0; function < FUNCTIONS; function++) {
+        for (int k = 0; k <= REFUSALS; k++) outcomes[function][k] = 0;
+        for (int k = 0; k < CHECKS; k++) failures[function][k] = 0;
+        for (uint64_t number = 0; number < count; number++) ask(function, number, fault);
+    }
+}
+
+static uint32_t passed, failed;
+
+// Counts a test, and gives what is printed of it.
+static const char *test(int holds) {
+    if (holds) passed++;
+    else failed++;
+    return holds ? "" : " FAILED";
+}
+
+static uint64_t decimal(const char *text) {
+    uint64_t x = 0;
+    for (; *text >= '0' && *text <= '9'; text++) x = 10 * x + (uint64_t)(*text - '0');
+    return x;
+}
+
+int main(int arguments, char **argument) {
+    if (arguments != 3) {
+        printf("usage: random COUNT SEED\n");
+        return 2;
+    }
+    uint64_t count = decimal(argument[1]);
+    state = decimal(argument[2]);
+    run(count, NONE);
+    for (int function = 0; function < FUNCTIONS; function++) {
+        unsigned long long *times = outcomes[function], *broken = failures[function];
+        const char *name = function_names[function];
+        printf("%s: %llu requests, accepted %llu%s, by refusal", name, (unsigned long long)count, times[0],
+               test(times[0] > 0));
+        for (int k = 1; k <= REFUSALS; k++) printf("%s %d: %llu%s", k > 1 ? "," : "", k, times[k], test(times[k] > 0));
+        printf("\n");
+        for (int k = 0; k < CHECKS; k++) {
+            printf("%s: %s: all but %llu%s\n", name, check_names[k], broken[k], test(count && !broken[k]));
+        }
+    }
+    for (int fault = NONE + 1; fault < FAULTS; fault++) {
+        int check = faults[fault].seen_by;
+        run(FAULTY, fault);
+        printf("seeded: %s: `%s` fails", faults[fault].name, check_names[check]);
+        for (int function = 0; function < FUNCTIONS; function++) {
+            unsigned long long times = failures[function][check];
+            printf("%s %llu times for %s%s", function ? "," : "", times, function_names[function], test(times > 0));
+        }
+        printf("\n");
+    }
+    printf("%u passed, %u failed\n", passed, failed);
+    return failed != 0;
+}
