@@ -1,14 +1,13 @@
 -- A text that stands at the front of a lent buffer: how one is written after another. Assumes nothing.
 use mathlib.Core.Path.{_≡_, refl, sym, ap, _∙_}
-use mathlib.Core.List.{List, [], _∷_, _++_}
+use mathlib.Core.List.{List, [], _∷_, _++_, append-nil, append-assoc}
 use Prim.Native.Nat.{ℕ, suc, _+_, _-_, _<_, _≤_}
 use native.Mathlib.Nat.{zero-add}
 use native.Mathlib.Numerals.{add-one}
 use native.Mathlib.Omega.{arith}
-use lib.ListN.{length, take, drop, set, length-append, length-take, length-drop}
-use lib.Seq.{drop-cons, append-snoc, set-at, sets, sets-eq}
+use lib.ListN.{length, take, drop, set, length-append, length-take, length-drop, drop-of-length-le}
+use lib.Seq.{take-at, take-all, drop-at, drop-drop, drop-cons, append-snoc, set-at, sets, sets-eq}
 use borrow.Rule.Slice.PartMut.{putMid, same-len-mid}
-use Rattle.precoder.proofs.Written.{appended}
 use Rattle.line.specs.Text.{Puts}
 
 -- stores at the first places, one after the other
@@ -30,6 +29,18 @@ puts-next {text} {lent} {left} {n} b puts h =
     }
 
 -- ---- one text after another
+
+-- a callee that was lent `&mut o[n..]` has written x over the front of that: x stands after p, which stood before
+appended : {o y : List ℕ} (p d x : List ℕ) (n w : ℕ) → o ≡ p ++ drop n d → length p ≡ n → length o ≡ length d
+    → n ≤ length d → y ≡ x ++ drop w (take (length o - n) (drop n o))
+    → putMid n (length o - n) o y ≡ (p ++ x) ++ drop (n + w) d
+appended {o} p d x n w q e l h r =
+    let some : length (drop n d) ≤ length o - n = simp length-drop (omega arith) in
+    let front : take n o ≡ p = rw q (take-at p (drop n d) n e) in
+    let rest : drop n o ≡ drop n d = rw q (drop-at p (drop n d) n e) in
+    let all : take (length o - n) (drop n d) ≡ drop n d = take-all (length o - n) (drop n d) some in
+    let none : drop (length o - n) (drop n d) ≡ [] = drop-of-length-le (drop n d) some in
+    rw (front, rest, none, r, rest, all, drop-drop) (simp (append-nil, append-assoc))
 
 -- a text at the front of a buffer that keeps its length
 pub record Stands (text lent : List ℕ) (n : ℕ) (left : List ℕ) : Type 0 where
