@@ -12,6 +12,8 @@ from pathlib import Path
 
 ROOT = Path(__file__).resolve().parent.parent
 TURN, RADIUS, ONE = 192, 16384, 10**60
+# the coarse table has the whole 32nds of a turn
+COARSE_STEP = TURN // 32
 # the first part at the phases that the scope names
 ANCHORS = {0: 16384, 8: 15826, 12: 15137, 16: 14189, 24: 11585, 32: 8192, 36: 6270, 40: 4240, 48: 0}
 
@@ -57,10 +59,10 @@ def expected():
     return pairs, min(margins)
 
 
-def in_source():
-    """The numbers of the constant, in their order."""
+def in_source(name):
+    """The pairs of a constant, in their order."""
     text = (ROOT / "crates/weight/src/lib.rt").read_text(encoding="utf8")
-    body = re.search(r"const TABLE: .*?= \[\n(.*?)\n\];", text, re.S)[1]
+    body = re.search(rf"const {name}: .*?= \[\n(.*?)\n\];", text, re.S)[1]
     numbers = [int(n) for n in re.findall(r"^\s*(-?\d+),", body, re.M)]
     return list(zip(numbers[::2], numbers[1::2]))
 
@@ -93,10 +95,13 @@ def main():
         print(__doc__)
         return 2
     results = [("the pairs are well away from ties", 1000 * margin > ONE)]
-    for name, found in (("source", in_source()), ("program", printed())):
+    for name, found in (("source", in_source("TABLE")), ("program", printed())):
         results.append((f"{name}: {TURN} pairs", len(found) == TURN))
         results += [(f"{name}: entry {e}", e < len(found) and found[e] == pair) for e, pair in enumerate(pairs)]
         results += [(f"{name}: anchor {e}", found[e][0] == x) for e, x in ANCHORS.items()]
+    coarse, sampled = in_source("COARSE"), pairs[::COARSE_STEP]
+    results.append((f"coarse: {len(sampled)} pairs", len(coarse) == len(sampled)))
+    results += [(f"coarse: entry {k}", k < len(coarse) and coarse[k] == pair) for k, pair in enumerate(sampled)]
     results += [(f"deviations {n}", n == m) for n, m in zip(deviations(pairs), (25237, -17304, 15121))]
     failed = [name for name, good in results if not good]
     for name in failed:

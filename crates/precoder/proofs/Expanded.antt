@@ -2,16 +2,18 @@
 -- which its weights are made. Assumes nothing.
 use mathlib.Core.Path.{_≡_, sym, ap, _∙_}
 use mathlib.Core.List.{List, [], _∷_, _++_, map}
-use Prim.Native.Nat.{ℕ, zero, suc, _+_, _*_, _<_, _≤_}
-use native.Mathlib.Nat.{le-trans, mul-le-mul-right}
+use Prim.Native.Nat.{ℕ, zero, suc, _+_, _*_, _/_, _%_, _<_, _≤_}
+use native.Mathlib.Nat.{le-trans, mul-le-mul-right, div-lt-iff-lt-mul, div-mul-cancel, dvd-of-mod-eq-zero}
 use native.Mathlib.Omega.{arith}
-use lib.IntN.{ℤ}
+use lib.IntN.{ℤ, pos}
 use lib.ListN.{length, take, drop, set, getD, length-append, length-map, List·getD-map}
 use lib.Seq.{take-at, length-take-le, getD-take}
 use Rattle.turn.specs.Phase.{turn}
+use Rattle.turn.proofs.Steps.{left-pos}
+use Rattle.turn.proofs.Multiples.{Multiples, multiples-at}
 use Rattle.weight.specs.declared.Weight.{Weight}
 use Rattle.weight.specs.Table.{weight, numbers}
-use Rattle.weight.proofs.Pairs.{length-numbers, numbers-x, numbers-y}
+use Rattle.weight.proofs.Pairs.{length-numbers, numbers-x, numbers-y, length-sampled, sampled-x, sampled-y}
 use Rattle.codebook.specs.declared.Report.{Report}
 use Rattle.codebook.specs.Matrix.{layers, join, block, columnOf, matrix}
 use Rattle.codebook.specs.Refusals.{InRange}
@@ -19,10 +21,45 @@ use Rattle.codebook.proofs.Known.{ports-few}
 use Rattle.codebook.proofs.Layers.{length-matrix}
 use Rattle.precoder.specs.Answer.{P, weightsOf}
 use Rattle.precoder.specs.Layer.{Reduced}
+use Rattle.precoder.specs.Lookup.{Sampled, Spaced}
 use Rattle.precoder.proofs.Written.{stored}
 use Rattle.precoder.proofs.Columns.{column-below, below-append}
 
+-- ---- phase e, looked up in a table of phases some way apart
+
+module _ {apart : ℕ} {stored : List ℤ} (s : Sampled apart stored) where
+  pub apart-some : 0 < apart
+  apart-some = left-pos apart (turn / apart) (s .whole)
+
+  pub length-stored : length stored ≡ 2 * (turn / apart)
+  length-stored = ap length (s .same) ∙ length-sampled apart
+
+  module _ (e : ℕ) (h : e < turn) where
+    pub place-within : e / apart < turn / apart
+    place-within = div-lt-iff-lt-mul apart-some .1 (omega (arith, s .whole))
+
+    module _ (m : e % apart ≡ 0) where
+      at-place : weight (e / apart * apart) ≡ weight e
+      at-place = ap weight (div-mul-cancel apart (dvd-of-mod-eq-zero apart m))
+
+      pub stored-x : getD stored (2 * (e / apart)) (pos 0) ≡ weight e .x
+      stored-x =
+          ap (λ (ns : List ℤ). getD ns (2 * (e / apart)) (pos 0)) (s .same)
+          ∙ sampled-x apart (e / apart) place-within
+          ∙ ap (λ (w : Weight). w .x) at-place
+
+      pub stored-y : getD stored (2 * (e / apart) + 1) (pos 0) ≡ weight e .y
+      stored-y =
+          ap (λ (ns : List ℤ). getD ns (2 * (e / apart) + 1) (pos 0)) (s .same)
+          ∙ sampled-y apart (e / apart) place-within
+          ∙ ap (λ (w : Weight). w .y) at-place
+
+-- ---- the weights of the first n phases
+
 module _ (phases : List ℕ) (n : ℕ) (h : n ≤ length phases) where
+  pub spaced-at : {apart : ℕ} → Spaced apart (take n phases) → (i : ℕ) → i < n → getD phases i 0 % apart ≡ 0
+  spaced-at s i k = rw (getD-take n phases i 0 k) at (s .each i (omega (arith, length-take-le n phases h)))
+
   abbrev pub expanded : List ℤ
   expanded = numbers (map weight (take n phases))
 
@@ -86,6 +123,9 @@ module _ (r : Report) where
 
     pub front-reduced : Reduced (take n phases)
     front-reduced = rw front (record { below = λ i k. matrix-below i })
+
+    pub front-spaced : {apart : ℕ} → Multiples apart (matrix r) → Spaced apart (take n phases)
+    front-spaced {apart} m = rw front (record { each = multiples-at apart m })
 
     -- copied, they are the report's answer, and so are their weights
     pub front-phases : {o : List ℕ} (lent : List ℕ) → o ≡ take n phases ++ drop n lent → o ≡ matrix r ++ drop n lent

@@ -1,5 +1,6 @@
 -- Laws that the proofs share, then theorems.
 pub mod Written
+pub mod Multiples
 pub mod Expanded
 pub mod Columns
 pub mod Drawn

@@ -2,3 +2,4 @@
 pub mod Answer
 pub mod Layer
 pub mod Digit
+pub mod Lookup

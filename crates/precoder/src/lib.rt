@@ -25,6 +25,9 @@ pub struct Record {
 // The entries of the largest matrix, 8 layers of 32 ports, and sixteen more, over which the last block may be written.
 const MOST: usize = 256 + 16;
 
+// A 32nd of a turn, by which the phases of the coarse table are apart.
+const COARSE_STEP: usize = (turn::TURN / 32) as usize;
+
 // The record of a refused report.
 fn refused(number: u32) -> Record
     ensures { λ a. ⌜ a ≡ record { refusal = number; ports = 0; layers = 0; scale = 0 } ⌝ }
@@ -96,7 +99,14 @@ pub fn weights(r: Report, beams: &[u8], ranks: u8, out: &mut [i16]) -> Record
     let mut phases = [0; MOST];
     layers::matrix(r, c, &mut phases);
     let a = accepted(r);
+    // Where P divides 16, all phases are whole 32nds of a turn, and a table of these serves. A call builds the table that
+    // it takes, and for few entries building the whole one, six times as long, costs more than all else.
+    if 16 % a.ports == 0 {
+        let coarse = Weight::coarse();
+        expand::expand(&coarse, COARSE_STEP, &phases, a.scale as usize, out);
+        return a;
+    }
     let table = Weight::table();
-    expand::expand(&table, &phases, a.scale as usize, out);
+    expand::expand(&table, 1, &phases, a.scale as usize, out);
     a
 }

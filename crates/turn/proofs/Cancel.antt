@@ -4,24 +4,24 @@ use mathlib.Core.Path.{_≡_}
 use mathlib.Core.Logic.{_⊎_, inl, inr}
 use mathlib.Core.Bool.{Bool}
 use mathlib.Core.List.{List, map}
-use Prim.Native.Nat.{ℕ, zero, suc, _+_, _*_, _%_}
+use Prim.Native.Nat.{ℕ, _+_, _*_}
 use native.Mathlib.Omega.{arith}
 use lib.ListN.{length}
 use Rattle.turn.specs.Phase.{half, third, twelfth, phase}
-use Rattle.turn.specs.Column.{Setting, Divides, steps, product, beam, column}
+use Rattle.turn.specs.Column.{Setting, Divides, beam, column}
 use Rattle.turn.specs.Exact.{differences, Orthogonal}
-use Rattle.turn.proofs.All.{All, none, more, all-append, all-product, all-map}
 use Rattle.turn.proofs.Invariant.{Invariant}
 use Rattle.turn.proofs.Zero.{to-half, half-or-third}
 use Rattle.turn.proofs.Differences.{differences-column}
-use Rattle.turn.proofs.Steps.{mul-multiple, gap-multiple}
+use Rattle.turn.proofs.Steps.{gap-multiple}
 use Rattle.turn.proofs.Beams.{Apart, Common, same-length, differences-beams, beams-turned}
 use Rattle.turn.proofs.Opposites.{flipped, Even, opposites-invariant}
+use Rattle.turn.proofs.Multiples.{Multiples, multiples-steps, multiples-product, multiples-phases}
 use Rattle.turn.proofs.Orthogonal.{orthogonal-turned, turned-by-beams, turned-by-co-phases}
 
 -- whole twelfths of a turn
 abbrev pub Coarse : List ℕ → Type 0
-Coarse xs = All (λ e. e % twelfth ≡ 0) xs
+Coarse xs = Multiples twelfth xs
 
 pub data Cancels (xs : List ℕ) : Type 0 where
   opposites : Invariant half xs → Cancels xs
@@ -32,18 +32,8 @@ pub cancels-orthogonal : (xs ys : List ℕ) → Cancels (differences xs ys) → 
 cancels-orthogonal xs ys (opposites p) = orthogonal-turned {g = half} xs ys (omega arith) p
 cancels-orthogonal xs ys (thirds p a) = orthogonal-turned {g = third} xs ys (omega arith) p
 
--- ---- coarse lists
-
 coarse-phases : {xs : List ℕ} → Coarse xs → Coarse (map phase xs)
-coarse-phases a = all-map phase (λ x h. omega arith) a
-
-coarse-product : {xs ys : List ℕ} → Coarse xs → Coarse ys → Coarse (product xs ys)
-coarse-product a b = all-product (λ x y h k. omega arith) a b
-
-coarse-steps : (n s : ℕ) → s % twelfth ≡ 0 → Coarse (steps n s)
-unfolding steps
-coarse-steps zero s h = none
-coarse-steps (suc n) s h = all-append (coarse-steps n s h) (more (mul-multiple n s twelfth h) none)
+coarse-phases = multiples-phases twelfth (omega arith)
 
 -- ---- columns
 
@@ -63,10 +53,12 @@ module _ (c : Setting) (whole : Divides c) (l m j1 j2 k1 k2 : ℕ) (a : Apart c 
   coarse-between : Common c twelfth → Coarse (differences co co′) → Coarse between
   coarse-between p h =
       rw (differences-column co co′ _ _ (same-length c whole l m j1 j2 k1 k2))
-      (coarse-phases (coarse-product h (rw (differences-beams c whole l m j1 j2 k1 k2) (coarse-phases (coarse-product
-      (coarse-phases (coarse-steps (c .n1) _ (gap-multiple (c .n1) (c .o1) (whole .rows) twelfth j1 k1 (p .rows))))
+      (coarse-phases (multiples-product twelfth h
+      (rw (differences-beams c whole l m j1 j2 k1 k2) (coarse-phases (multiples-product twelfth
       (coarse-phases
-      (coarse-steps (c .n2) _ (gap-multiple (c .n2) (c .o2) (whole .columns) twelfth j2 k2 (p .columns)))))))))
+      (multiples-steps twelfth (c .n1) _ (gap-multiple (c .n1) (c .o1) (whole .rows) twelfth j1 k1 (p .rows))))
+      (coarse-phases
+      (multiples-steps twelfth (c .n2) _ (gap-multiple (c .n2) (c .o2) (whole .columns) twelfth j2 k2 (p .columns)))))))))
 
   pub beams-cancel : Common c 3 ⊎ (Common c twelfth × Coarse (differences co co′)) → Cancels between
   beams-cancel s =

@@ -12,5 +12,6 @@ pub mod Differences
 pub mod Beams
 pub mod Opposites
 pub mod Orthogonal
+pub mod Multiples
 pub mod Cancel
 pub mod Example

@@ -23,6 +23,9 @@ eighth = turn / 8
 abbrev pub twelfth : ℕ
 twelfth = turn / 12
 
+abbrev pub thirtySecond : ℕ
+thirtySecond = turn / 32
+
 -- a whole number of parts as a phase: reduced modulo a turn
 abbrev pub phase : ℕ → ℕ
 phase x = x % turn

@@ -1,14 +1,17 @@
 -- Weights as they are stored: where the numbers of each stand, and what is read back. Assumes nothing.
-use mathlib.Core.Path.{_≡_, refl, sym, ap, _∙_}
+use mathlib.Core.Path.{_≡_, refl, ap, _∙_}
 use mathlib.Core.List.{List, [], _∷_, _++_, zipWith}
-use Prim.Native.Nat.{ℕ, zero, suc, _+_, _*_, _<_}
-use native.Mathlib.Nat.{mod-eq-of-lt}
+use Prim.Native.Nat.{ℕ, zero, suc, _+_, _*_, _/_, _<_}
 use native.Mathlib.Omega.{arith}
 use lib.IntN.{ℤ, pos}
-use lib.ListN.{length, getD}
+use lib.ListN.{length, getD, length-map}
 use Rattle.turn.specs.Phase.{turn}
+use Rattle.turn.specs.Column.{steps}
+use Rattle.turn.proofs.Lists.{map-at, length-steps}
+use Rattle.turn.proofs.Entries.{steps-entry}
 use Rattle.weight.specs.declared.Weight.{Weight}
-use Rattle.weight.specs.Table.{firstQuarter, firstHalf, xs, ys, table, none, weight, numbers, pairs}
+use Rattle.weight.specs.Table.{firstQuarter, firstHalf, xs, ys, table, none, weight, sampled}
+use Rattle.weight.specs.Table.{numbers, pairs}
 
 pub one-weight : {v w : Weight} → v .x ≡ w .x → v .y ≡ w .y → v ≡ w
 one-weight p q = λ i. record { x = p i; y = q i }
@@ -42,16 +45,26 @@ unfolding numbers pairs
 pairs-numbers [] ns = refl
 pairs-numbers (w ∷ ws) ns = ap {B = List Weight} (λ (vs : List Weight). w ∷ vs) (pairs-numbers ws ns)
 
--- ---- the table
+-- ---- weights of phases some way apart
 
-pub length-table : length (numbers table) ≡ 2 * turn
-unfolding table xs ys firstHalf firstQuarter zipWith numbers
-length-table = refl
+-- the table has those of all phases
+pub sampled-one : table ≡ sampled 1
+unfolding sampled steps weight table xs ys firstHalf firstQuarter zipWith
+sampled-one = refl
 
-pub table-x : (e : ℕ) → e < turn → getD (numbers table) (2 * e) (pos 0) ≡ weight e .x
-unfolding weight
-table-x e h = numbers-x table none e ∙ ap (λ (n : ℕ). getD table n none .x) (sym (mod-eq-of-lt h))
+pub length-sampled : (apart : ℕ) → length (numbers (sampled apart)) ≡ 2 * (turn / apart)
+unfolding sampled
+length-sampled apart = simp (length-numbers, length-map, length-steps)
 
-pub table-y : (e : ℕ) → e < turn → getD (numbers table) (2 * e + 1) (pos 0) ≡ weight e .y
-unfolding weight
-table-y e h = numbers-y table none e ∙ ap (λ (n : ℕ). getD table n none .y) (sym (mod-eq-of-lt h))
+sampled-at : (apart k : ℕ) → k < turn / apart → getD (sampled apart) k none ≡ weight (k * apart)
+unfolding sampled
+sampled-at apart k h =
+    map-at weight (steps (turn / apart) apart) k 0 none (rw length-steps h)
+    ∙ ap weight (steps-entry (turn / apart) apart k h)
+
+pub sampled-x : (apart k : ℕ) → k < turn / apart → getD (numbers (sampled apart)) (2 * k) (pos 0) ≡ weight (k * apart) .x
+sampled-x apart k h = numbers-x (sampled apart) none k ∙ ap (λ (w : Weight). w .x) (sampled-at apart k h)
+
+pub sampled-y : (apart k : ℕ) → k < turn / apart
+    → getD (numbers (sampled apart)) (2 * k + 1) (pos 0) ≡ weight (k * apart) .y
+sampled-y apart k h = numbers-y (sampled apart) none k ∙ ap (λ (w : Weight). w .y) (sampled-at apart k h)

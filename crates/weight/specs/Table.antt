@@ -1,9 +1,10 @@
 -- The table of weights: a pair of whole numbers for each phase, from the cosines of its first quarter.
 use mathlib.Core.List.{List, [], _∷_, _++_, map, reverse, zipWith}
-use Prim.Native.Nat.{ℕ, _-_}
+use Prim.Native.Nat.{ℕ, _-_, _/_}
 use lib.IntN.{ℤ, pos, negℤ}
 use lib.ListN.{getD, take, drop}
-use Rattle.turn.specs.Phase.{turn, quarter, phase}
+use Rattle.turn.specs.Phase.{turn, quarter, thirtySecond, phase}
+use Rattle.turn.specs.Column.{steps}
 use Rattle.weight.specs.declared.Weight.{Weight}
 
 -- the weight of phase 0, and the length that every weight is near
@@ -42,6 +43,14 @@ none = record { x = pos 0; y = pos 0 }
 -- the weight of a phase
 unfoldable pub weight : ℕ → Weight
 weight e = getD table (phase e) none
+
+-- the weights of the phases 0, apart, 2·apart, .., below a turn
+unfoldable pub sampled : ℕ → List Weight
+sampled apart = map weight (steps (turn / apart) apart)
+
+-- those at the whole 32nds of a turn
+abbrev pub coarse : List Weight
+coarse = sampled thirtySecond
 
 -- weights as they are stored: x, then y, of each
 unfoldable pub numbers : List Weight → List ℤ

@@ -1,7 +1,7 @@
 // The table of weights: a pair of 16-bit numbers for each phase.
 use turn::Phase;
 ghost use mathlib.Core.Path.{_≡_};
-ghost use Rattle.weight.specs.Table.{table, weight, numbers};
+ghost use Rattle.weight.specs.Table.{table, weight, coarse, numbers};
 
 // What one antenna port transmits for one layer: real part x and imaginary part y.
 pub struct Weight {
@@ -397,6 +397,74 @@ const TABLE: [i16; 2 * (turn::TURN as usize)] = [
     -536, // 191: y
 ];
 
+// The same for each whole 32nd of a turn.
+const COARSE: [i16; 2 * 32] = [
+    16384, // 0/32: x
+    0, // 0/32: y
+    16069, // 1/32: x
+    3196, // 1/32: y
+    15137, // 2/32: x
+    6270, // 2/32: y
+    13623, // 3/32: x
+    9102, // 3/32: y
+    11585, // 4/32: x
+    11585, // 4/32: y
+    9102, // 5/32: x
+    13623, // 5/32: y
+    6270, // 6/32: x
+    15137, // 6/32: y
+    3196, // 7/32: x
+    16069, // 7/32: y
+    0, // 8/32: x
+    16384, // 8/32: y
+    -3196, // 9/32: x
+    16069, // 9/32: y
+    -6270, // 10/32: x
+    15137, // 10/32: y
+    -9102, // 11/32: x
+    13623, // 11/32: y
+    -11585, // 12/32: x
+    11585, // 12/32: y
+    -13623, // 13/32: x
+    9102, // 13/32: y
+    -15137, // 14/32: x
+    6270, // 14/32: y
+    -16069, // 15/32: x
+    3196, // 15/32: y
+    -16384, // 16/32: x
+    0, // 16/32: y
+    -16069, // 17/32: x
+    -3196, // 17/32: y
+    -15137, // 18/32: x
+    -6270, // 18/32: y
+    -13623, // 19/32: x
+    -9102, // 19/32: y
+    -11585, // 20/32: x
+    -11585, // 20/32: y
+    -9102, // 21/32: x
+    -13623, // 21/32: y
+    -6270, // 22/32: x
+    -15137, // 22/32: y
+    -3196, // 23/32: x
+    -16069, // 23/32: y
+    0, // 24/32: x
+    -16384, // 24/32: y
+    3196, // 25/32: x
+    -16069, // 25/32: y
+    6270, // 26/32: x
+    -15137, // 26/32: y
+    9102, // 27/32: x
+    -13623, // 27/32: y
+    11585, // 28/32: x
+    -11585, // 28/32: y
+    13623, // 29/32: x
+    -9102, // 29/32: y
+    15137, // 30/32: x
+    -6270, // 30/32: y
+    16069, // 31/32: x
+    -3196, // 31/32: y
+];
+
 impl Weight {
     // The weight of a phase: `Weight::of(Phase::QUARTER)` is 0, 16384. A phase of a turn or more is reduced first.
     pub fn of(p: Phase) -> Weight
@@ -415,5 +483,12 @@ impl Weight {
         ensures { λ r. ⌜ r ≡ numbers table ⌝ }
     {
         TABLE
+    }
+
+    // The weights at the whole 32nds of a turn, a sixth of the table: for each from 0 on, x and then y.
+    pub fn coarse() -> [i16; 2 * 32]
+        ensures { λ r. ⌜ r ≡ numbers coarse ⌝ }
+    {
+        COARSE
     }
 }

@@ -1,10 +1,11 @@
 -- `expand::expand` meets its contract: each turn looks up the pair of one phase and stores its two numbers.
 -- Assumes nothing.
-use mathlib.Core.Path.{_≡_, refl, ap, _∙_}
-use mathlib.Core.List.{List, _++_, map}
-use Prim.Native.Nat.{_+_, _-_, _*_, _^_, _≤_, _<_}
+use mathlib.Core.Path.{_≡_, refl, _∙_}
+use mathlib.Core.List.{_++_, map}
+use Prim.Native.Nat.{_+_, _-_, _*_, _/_, _%_, _^_, _≤_, _<_}
+use native.Mathlib.Nat.{div-le-self}
 use native.Mathlib.Omega.{arith}
-use lib.IntN.{ℤ, pos}
+use lib.IntN.{ℤ}
 use lib.ListN.{length, take, drop, getD, length-set}
 use lib.Signed.{mag}
 use mir.Syntax.{w16}
@@ -12,30 +13,37 @@ use mir.Val.{hbits, toZ, ofZ}
 use mir.Facts.{toZ-ofZ}
 use Rattle.turn.specs.Phase.{turn}
 use Rattle.weight.specs.Table.{weight, numbers}
-use Rattle.weight.proofs.Pairs.{length-table, table-x, table-y}
 use Rattle.precoder.proofs.Written.{stored-all}
 use Rattle.precoder.proofs.Columns.{reduced-at}
-use Rattle.precoder.proofs.Expanded.{length-expanded, weight-stored}
+use Rattle.precoder.proofs.Expanded.{apart-some, length-stored, place-within, stored-x, stored-y}
+use Rattle.precoder.proofs.Expanded.{spaced-at, length-expanded, weight-stored}
 use Rattle.precoder.proofs.expand.expand.Statement.{statement}
 use Rattle.precoder.proofs.expand.expand.Tie as tie
 
 abbrev Inv-loop : tie.InvT-loop
-Inv-loop stored phases n out₀ i₀ at₀ out i at =
+Inv-loop stored apart phases n out₀ i₀ at₀ out i at =
     (i ≤ n) × (at ≡ 2 * i) × (out ≡ take at (numbers (map weight (take n phases))) ++ drop at out₀)
     × (length out ≡ length out₀)
 
 abbrev μ-loop : tie.MeasureT-loop
-μ-loop stored phases n out₀ i₀ at₀ out i at = n - i
+μ-loop stored apart phases n out₀ i₀ at₀ out i at = n - i
 
--- the phase that a turn reads is below a turn, and the table has its two numbers
+-- the phase that a turn reads is below a turn and a multiple of the phases that the table has, so that its weight is there
 below : (c : tie.In-loop Inv-loop μ-loop)
     → getD (c .before .before .args .phases .now) (c .before .loop .i) 0 < turn
 below c =
     let s = c .before .before in
     reduced-at _ (s .args .n) (s .pre .1) (s .pre .3) _ (c .loop-test .taken)
 
-long : (s : tie.Start Inv-loop μ-loop) → length (s .args .stored .now) ≡ 2 * turn
-long s = ap length (s .pre .0) ∙ length-table
+spaced : (c : tie.In-loop Inv-loop μ-loop)
+    → getD (c .before .before .args .phases .now) (c .before .loop .i) 0 % c .before .before .args .apart ≡ 0
+spaced c =
+    let s = c .before .before in
+    spaced-at _ (s .args .n) (s .pre .1) (s .pre .4) _ (c .loop-test .taken)
+
+within : (c : tie.In-loop Inv-loop μ-loop) → let a = c .before .before .args in
+    (getD (a .phases .now) (c .before .loop .i) 0 / a .apart < turn / a .apart) × (turn / a .apart ≤ turn)
+within c = (place-within (c .before .before .pre .0) _ (below c), div-le-self turn _)
 
 loop-holds : tie.Need-loop-holds Inv-loop μ-loop
 loop-holds c = (omega arith, refl, refl, refl)
@@ -46,23 +54,28 @@ shared-slice-read-k c = omega arith
 cast-k : tie.Need-cast-k Inv-loop μ-loop
 cast-k c = omega (arith, below (c .before))
 
+div-k : tie.Need-div-k Inv-loop μ-loop
+div-k c = omega (arith, apart-some (c .before .before .before .pre .0))
+
 mul-k : tie.Need-mul-k Inv-loop μ-loop
-mul-k c = omega (arith, below (c .before))
+mul-k c = omega (arith, within (c .before))
 
 add-next : tie.Need-add-next Inv-loop μ-loop
-add-next c = omega (arith, below (c .before))
+add-next c = omega (arith, within (c .before))
 
 mul-x : tie.Need-mul-x Inv-loop μ-loop
-mul-x c = omega (arith, below (c .before))
+mul-x c = omega (arith, within (c .before))
 
 shared-slice-copy-out-x : tie.Need-shared-slice-copy-out-x Inv-loop μ-loop
-shared-slice-copy-out-x c = omega (arith, below (c .before), long (c .before .before .before))
+shared-slice-copy-out-x c =
+    omega (arith, within (c .before), length-stored (c .before .before .before .pre .0))
 
 mul-y : tie.Need-mul-y Inv-loop μ-loop
-mul-y c = omega (arith, below (c .before .before))
+mul-y c = omega (arith, within (c .before .before))
 
 shared-slice-copy-out-y : tie.Need-shared-slice-copy-out-y Inv-loop μ-loop
-shared-slice-copy-out-y c = omega (arith, below (c .before .before), long (c .before .before .before .before))
+shared-slice-copy-out-y c =
+    omega (arith, within (c .before .before), length-stored (c .before .before .before .before .pre .0))
 
 mul-x-2 : tie.Need-mul-x-2 Inv-loop μ-loop
 mul-x-2 c = omega arith
@@ -97,11 +110,8 @@ loop-again c =
     let t = c .before .before .before in
     let l = t .before .loop in
     let s = t .before .before in
-    let e = getD (s .args .phases .now) (l .i) 0 in
-    let stored-x = ap (λ (ns : List ℤ). getD ns (2 * e) (pos 0)) (s .pre .0) in
-    let stored-y = ap (λ (ns : List ℤ). getD ns (2 * e + 1) (pos 0)) (s .pre .0) in
-    let ex = local (c .before .x .given) ∙ stored-x ∙ table-x e (below t) in
-    let ey = local (c .y .given) ∙ stored-y ∙ table-y e (below t) in (
+    let ex = local (c .before .x .given) ∙ stored-x (s .pre .0) _ (below t) (spaced t) in
+    let ey = local (c .y .given) ∙ stored-y (s .pre .0) _ (below t) (spaced t) in (
       omega arith,
       omega arith,
       weight-stored (s .args .phases .now) (s .args .n) (s .pre .1) (s .args .out .now) (l .i) (l .at)
@@ -127,6 +137,7 @@ expand-spec =
     loop-holds
     shared-slice-read-k
     cast-k
+    div-k
     mul-k
     add-next
     mul-x
