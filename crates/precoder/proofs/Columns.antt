@@ -108,7 +108,7 @@ module _ (co b : List ℕ) (w : ℕ) (h : w ≤ length b) where
   first-block-written p t at e l k z r =
       let one : take 1 co ≡ getD co 0 0 ∷ [] = take-suc co 0 0 k in
       let same : blocks 1 ≡ take w b =
-          rw one (sym (take-turned (getD co 0 0) w b) ∙ ap (take w) (unturned (getD co 0 0) b z r)) in
+      rw one (sym (take-turned (getD co 0 0) w b) ∙ ap (take w) (unturned (getD co 0 0) b z r)) in
       take-over p b t at w e l h ∙ ap (λ (l : List ℕ). p ++ l) (sym same)
 
   -- and each other block turned
@@ -117,7 +117,7 @@ module _ (co b : List ℕ) (w : ℕ) (h : w ≤ length b) where
   next-block-written o p t to q e k l g =
       let more : take (q + 1) co ≡ take q co ++ (getD co q 0 ∷ []) = rw add-one (take-suc co q 0 l) in
       take-over (take to o) (column (getD co q 0 ∷ []) b) t to w g (length-take-le to o k)
-          (omega (arith, length-turned (getD co q 0) b))
+      (omega (arith, length-turned (getD co q 0) b))
       ∙ rw (e, take-turned, more, column-append) (append-assoc p (blocks q) _)
 
 -- ---- a list that holds phases in front

@@ -43,8 +43,8 @@ module _ (w s u i : ℕ) (c : Cursor) (h : At w s u i c) where
     where
       by-left : (t : Bool) → eqb (c .left) 1 ≡ t
           → At w s u (i + 1) (cond t
-              record { left = w; start = phase (c .start + s); next = phase (c .start + s) }
-              record { left = c .left - 1; start = c .start; next = phase (c .next + u) })
+          record { left = w; start = phase (c .start + s); next = phase (c .start + s) }
+          record { left = c .left - 1; start = c .start; next = phase (c .next + u) })
       by-left true e = record {
         a = h .a + 1;
         b = 0;

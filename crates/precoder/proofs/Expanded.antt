@@ -2,12 +2,12 @@
 -- which its weights are made. Assumes nothing.
 use mathlib.Core.Path.{_≡_, sym, ap, _∙_}
 use mathlib.Core.List.{List, [], _∷_, _++_, map}
-use Prim.Native.Nat.{ℕ, zero, suc, _+_, _*_, _/_, _%_, _<_, _≤_}
+use Prim.Native.Nat.{ℕ, _+_, _*_, _/_, _%_, _<_, _≤_}
 use native.Mathlib.Nat.{le-trans, mul-le-mul-right, div-lt-iff-lt-mul, div-mul-cancel, dvd-of-mod-eq-zero}
 use native.Mathlib.Omega.{arith}
 use lib.IntN.{ℤ, pos}
-use lib.ListN.{length, take, drop, set, getD, length-append, length-map, List·getD-map}
-use lib.Seq.{take-at, length-take-le, getD-take}
+use lib.ListN.{length, take, drop, set, getD, length-map, List·getD-map}
+use lib.Seq.{length-take-le, getD-take}
 use Rattle.turn.specs.Phase.{turn}
 use Rattle.turn.proofs.Steps.{left-pos}
 use Rattle.turn.proofs.Multiples.{Multiples, multiples-at}

@@ -44,9 +44,9 @@ loop-holds c =
     let a = s .args in
     let here = length-take-le (a .at) (a .out .now) (omega (arith, room s 0 (omega arith))) in
     let front = front-kept (take (a .at) (a .out .now)) (a .beam) (drop (a .at + 16) (a .out .now)) (a .at) (put .ensures)
-            here in
+    here in
     let first = first-block-written (a .t6) (a .beam) (a .w) (omega (arith, s .pre .0)) (take (a .at) (a .out .now))
-            (drop (a .at + 16) (a .out .now)) (a .at) (put .ensures) here (omega arith) (s .pre .4) (s .pre .6) in
+    (drop (a .at + 16) (a .out .now)) (a .at) (put .ensures) here (omega arith) (s .pre .4) (s .pre .6) in
     (omega arith, s .pre .1, omega arith, rw front first, refl)
 
 array-read-block : tie.Need-array-read-block Inv-loop μ-loop

@@ -50,7 +50,7 @@ returns : tie.Need-returns Inv-loop μ-loop
 returns c =
     let a = c .before .before .args in
     stored-all-at (a .out .now) (a .t3) (a .at) 16 (c .before .loop .i) (c .before .loop .inv .1) (omega arith)
-        (omega arith)
+    (omega arith)
 
 pub put-spec : {M : Type 1} → statement M
 put-spec =
