@@ -1,9 +1,10 @@
 -- The weights of phases, as they are stored over a lent list, two numbers each; and the phases of a report's matrix, from
 -- which its weights are made. Assumes nothing.
-use mathlib.Core.Path.{_≡_, sym, ap, _∙_}
+use mathlib.Core.Path.{_≡_, refl, sym, ap, _∙_}
+use mathlib.Core.Bool.{Bool, true, false, cond}
 use mathlib.Core.List.{List, [], _∷_, _++_, map}
 use Prim.Native.Nat.{ℕ, _+_, _*_, _/_, _%_, _<_, _≤_}
-use native.Mathlib.Nat.{le-trans, mul-le-mul-right, div-lt-iff-lt-mul, div-mul-cancel, dvd-of-mod-eq-zero}
+use native.Mathlib.Nat.{le-trans, mul-le-mul-right, div-lt-iff-lt-mul, div-mul-cancel, dvd-of-mod-eq-zero, le-of-dvd}
 use native.Mathlib.Omega.{arith}
 use lib.IntN.{ℤ, pos}
 use lib.ListN.{length, take, drop, set, getD, length-map, List·getD-map}
@@ -15,10 +16,11 @@ use Rattle.weight.specs.declared.Weight.{Weight}
 use Rattle.weight.specs.Table.{weight, numbers}
 use Rattle.weight.proofs.Pairs.{length-numbers, numbers-x, numbers-y, length-sampled, sampled-x, sampled-y}
 use Rattle.codebook.specs.declared.Report.{Report}
-use Rattle.codebook.specs.Matrix.{layers, join, block, columnOf, matrix}
+use Rattle.codebook.specs.Columns.{halfLength}
+use Rattle.codebook.specs.Matrix.{layers, join, rows, block, columnOf, matrix}
 use Rattle.codebook.specs.Refusals.{InRange}
 use Rattle.codebook.proofs.Known.{ports-few}
-use Rattle.codebook.proofs.Layers.{length-matrix}
+use Rattle.codebook.proofs.Layers.{halved, length-matrix}
 use Rattle.precoder.specs.Answer.{P, weightsOf}
 use Rattle.precoder.specs.Layer.{Reduced}
 use Rattle.precoder.specs.Lookup.{Sampled, Spaced}
@@ -111,6 +113,23 @@ module _ (r : Report) where
   pub entries-few : InRange r → r .v * P r ≤ 256
   entries-few h =
       le-trans (mul-le-mul-right (P r) (h .few)) (omega (arith, ports-few (r .n1) (r .n2) (h .setting)))
+
+  -- where P divides 16, at most 8 of 16
+  pub coarse-few : InRange r → 16 % P r ≡ 0 → r .v * P r ≤ 128
+  coarse-few h d =
+      let few = le-of-dvd {m = P r} {n = 16} (omega arith) (dvd-of-mod-eq-zero (P r) d) in
+      le-trans (mul-le-mul-right (P r) (h .few)) (omega (arith, few))
+
+  -- and the last block of as many has sixteen
+  pub entries-fit : InRange r → r .v * P r + 16 ≤ 256 + rows r * r .n2
+  entries-fit h = by-length (halfLength r) refl
+    where
+      ports : P r ≤ 32
+      ports = ports-few (r .n1) (r .n2) (h .setting)
+
+      by-length : (b : Bool) → halfLength r ≡ b → r .v * P r + 16 ≤ 256 + cond b (r .n1 / 2) (r .n1) * r .n2
+      by-length true e = omega (arith, mul-le-mul-right (P r) (halved r e .few), ports)
+      by-length false e = omega (arith, mul-le-mul-right (P r) (h .few), ports)
 
   pub length-weights : InRange r → length (weightsOf r) ≡ 2 * (r .v * P r)
   unfolding weightsOf

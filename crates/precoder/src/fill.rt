@@ -111,9 +111,9 @@ fn block(out: &mut [u8], at: usize, beam: [u8; 16], c: u8)
 }
 
 // A column from place `at` on: n blocks of w entries, block q the beam turned by co[q]. A block is written with all sixteen
-// places of the beam, and the next one over those past its w entries, so that up to sixteen entries after the column change.
+// places of the beam, and the next one over those past its w entries, so that some entries after the column change.
 pub fn blocks(out: &mut [u8], at: usize, w: usize, n: usize, beam: [u8; 16], co: [u8; 4])
-    requires { ⌜ (w ≤ 16) × (1 ≤ n) × (n ≤ 4) × (at + n * w + 16 ≤ length (now out)) × (getD co 0 0 ≡ 0)
+    requires { ⌜ (w ≤ 16) × (1 ≤ n) × (n ≤ 4) × (at + n * w + 16 ≤ length (now out) + w) × (getD co 0 0 ≡ 0)
         × Reduced co × Reduced beam ⌝ }
     ensures { λ _. ⌜ take (at + n * w) (now (out .exit))
         ≡ take at (now (out .entry)) ++ column (take n co) (take w beam) ⌝ }

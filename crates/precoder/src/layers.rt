@@ -8,7 +8,7 @@ ghost use Prim.Native.Nat.{_+_, _*_, _/_, _%_, _<_, _≤_};
 ghost use lib.ListN.{length, take};
 ghost use Rattle.turn.specs.Phase.{turn, phase};
 ghost use Rattle.codebook.specs.Settings.{ports, across};
-ghost use Rattle.codebook.specs.Matrix.{addedOf, matrix};
+ghost use Rattle.codebook.specs.Matrix.{addedOf, rows, matrix};
 ghost use Rattle.codebook.specs.Refusals.{InRange, accepted};
 ghost use Rattle.precoder.specs.Digit.{bracket, layerOf};
 ghost use Rattle.precoder.specs.Layer.{Holds, Framed, blockAt, Draws, Stands};
@@ -132,9 +132,9 @@ fn beam_for(r: Report, c: Choice, s: Frame, place: usize, drawn: usize, beam: [u
     beam_at(r, c, s, place)
 }
 
-// The matrix: layer after layer. Up to sixteen entries after it change.
+// The matrix: layer after layer. The buffer has room for the sixteen entries with which its last block is written.
 pub fn matrix(r: Report, c: Choice, out: &mut [u8])
-    requires { ⌜ InRange r × (c ≡ accepted r) × (r .v * ports (r .n1) (r .n2) + 16 ≤ length (now out)) ⌝ }
+    requires { ⌜ InRange r × (c ≡ accepted r) × (r .v * ports (r .n1) (r .n2) + 16 ≤ length (now out) + rows r * r .n2) ⌝ }
     ensures { λ _. ⌜ take (r .v * ports (r .n1) (r .n2)) (now (out .exit)) ≡ matrix r ⌝ }
 {
     let s = frame_of(r, c);

@@ -1,6 +1,5 @@
 // The precoder of a report, written into a lent buffer.
 use codebook::Report;
-use weight::Weight;
 ghost use mathlib.Core.Path.{_≡_};
 ghost use mathlib.Core.List.{_++_};
 ghost use Prim.Native.Nat.{_≤_};
@@ -22,11 +21,8 @@ pub struct Record {
     pub scale: u32,
 }
 
-// The entries of the largest matrix, 8 layers of 32 ports, and sixteen more, over which the last block may be written.
-const MOST: usize = 256 + 16;
-
-// A 32nd of a turn, by which the phases of the coarse table are apart.
-const COARSE_STEP: usize = (turn::TURN / 32) as usize;
+// The entries of the largest matrix: 8 layers of 32 ports.
+const MOST: usize = 256;
 
 // The record of a refused report.
 fn refused(number: u32) -> Record
@@ -96,17 +92,12 @@ pub fn weights(r: Report, beams: &[u8], ranks: u8, out: &mut [i16]) -> Record
     if c.refusal != 0 {
         return refused(c.refusal);
     }
-    let mut phases = [0; MOST];
-    layers::matrix(r, c, &mut phases);
     let a = accepted(r);
-    // Where P divides 16, all phases are whole 32nds of a turn, and a table of these serves. A call builds the table that
-    // it takes, and for few entries building the whole one, six times as long, costs more than all else.
+    let n = a.scale as usize;
     if 16 % a.ports == 0 {
-        let coarse = Weight::coarse();
-        expand::expand(&coarse, COARSE_STEP, &phases, a.scale as usize, out);
+        expand::by_coarse_table(r, c, n, out);
         return a;
     }
-    let table = Weight::table();
-    expand::expand(&table, 1, &phases, a.scale as usize, out);
+    expand::by_table(r, c, n, out);
     a
 }

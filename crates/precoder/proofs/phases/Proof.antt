@@ -8,7 +8,7 @@ use Rattle.codebook.specs.Refusals.{refusal, judged}
 use Rattle.codebook.proofs.Layers.{length-matrix}
 use Rattle.precoder.specs.declared.Record.{Record}
 use Rattle.precoder.proofs.Answers.{refused-answers, judged-accepted, judged-choice, accepted-answers}
-use Rattle.precoder.proofs.Expanded.{entries-few, front-phases}
+use Rattle.precoder.proofs.Expanded.{entries-few, entries-fit, front-phases}
 use Rattle.precoder.proofs.phases.Statement.{statement}
 use Rattle.precoder.proofs.phases.Tie as tie
 
@@ -35,7 +35,7 @@ matrix-requires c κs =
     let judge = judged-as (c .before .before .before) in
     let z = c .before .if1 .left in
     let h = judged-accepted _ _ _ _ judge z .in-range in
-    (h, judged-choice _ _ _ _ judge z, omega (arith, entries-few _ h))
+    (h, judged-choice _ _ _ _ judge z, entries-fit _ h)
 
 accepted-requires : tie.Need-accepted-requires
 accepted-requires c κs =

@@ -1,24 +1,17 @@
--- `precoder::weights` meets its contract: a refused report gives its number; of any other the matrix is written into a
--- buffer of its own, and its weights into the lent one. Assumes nothing.
-use mathlib.Core.Path.{_≡_, refl, sym, ap, _∙_}
-use mathlib.Core.List.{List, _++_, map}
-use Prim.Native.Nat.{ℕ, _*_, _/_, _%_, _≤_}
-use native.Mathlib.Nat.{mod-one}
+-- `precoder::weights` meets its contract: a refused report gives its number, and the weights of any other are written, by
+-- the table that serves its setting. Assumes nothing.
+use mathlib.Core.Path.{_≡_, sym, ap, _∙_}
+use mathlib.Core.List.{List, _++_}
+use Prim.Native.Nat.{_*_, _/_, _%_, _≤_}
 use native.Mathlib.Omega.{arith}
 use lib.IntN.{ℤ}
-use lib.ListN.{length, take, drop}
+use lib.ListN.{length, drop}
 use borrow.Author.Needs.{needs}
-use Rattle.weight.specs.Table.{weight, numbers}
-use Rattle.weight.proofs.Pairs.{sampled-one}
-use Rattle.codebook.specs.declared.Report.{Report}
-use Rattle.codebook.specs.Refusals.{InRange, refusal, judged}
+use Rattle.codebook.specs.Refusals.{InRange, accepted, refusal, judged}
 use Rattle.precoder.specs.declared.Record.{Record}
-use Rattle.precoder.specs.Answer.{P, Weights}
-use Rattle.precoder.specs.Layer.{Reduced}
-use Rattle.precoder.specs.Lookup.{Sampled, Spaced}
+use Rattle.precoder.specs.Answer.{P, weightsOf, Weights}
 use Rattle.precoder.proofs.Answers.{refused-answers, judged-accepted, judged-choice, accepted-answers}
-use Rattle.precoder.proofs.Multiples.{matrix-coarse}
-use Rattle.precoder.proofs.Expanded.{entries-few, length-weights, front-reduced, front-spaced, front-weights}
+use Rattle.precoder.proofs.Expanded.{length-weights}
 use Rattle.precoder.proofs.weights.Statement.{statement}
 use Rattle.precoder.proofs.weights.Tie as tie
 
@@ -37,122 +30,69 @@ returns : tie.Need-returns
 returns c =
     refused-answers _ _ _ _ (judged-as (c .before .before .before)) _ _ (c .before .if1 .taken) (c .refused .ensures)
 
-slice-aggregate-matrix : tie.Need-slice-aggregate-matrix
-slice-aggregate-matrix c = search needs
-
-matrix-requires : tie.Need-matrix-requires
-matrix-requires c κs =
-    let judge = judged-as (c .before .before .before) in
-    let z = c .before .if1 .left in
-    let h = judged-accepted _ _ _ _ judge z .in-range in
-    (h, judged-choice _ _ _ _ judge z, omega (arith, entries-few _ h))
-
 accepted-requires : tie.Need-accepted-requires
-accepted-requires c κs =
-    let e = c .before .before .before in
-    judged-accepted _ _ _ _ (judged-as (e .before .before)) (e .if1 .left) .in-range
+accepted-requires c κs = judged-accepted _ _ _ _ (judged-as (c .before .before)) (c .if1 .left) .in-range
 
--- ---- an accepted report, of which the matrix stands in a buffer of its own
+-- ---- an accepted report
 
 module _ (c : tie.After-accepted) where
   abbrev passed : tie.Else1
-  passed = c .before .before .before .before
+  passed = c .before
 
   abbrev start : tie.Start
   start = passed .before .before .before .before
 
-  abbrev r : Report
-  r = start .args .r
+  in-range : InRange (start .args .r)
+  in-range = accepted-requires passed tt
 
-  -- the buffer, and how much of it is the matrix
-  abbrev phases : List ℕ
-  phases = c .before .before .matrix .last .1 .1 .0
+  choice : passed .before .before .judge .result ≡ accepted (start .args .r)
+  choice = judged-choice _ _ _ _ (judged-as (passed .before .before)) (passed .if1 .left)
 
-  abbrev n : ℕ
-  n = c .accepted .result .scale
-
-  in-range : InRange r
-  in-range = accepted-requires (c .before) tt
-
-  scale : n ≡ r .v * P r
+  scale : c .accepted .result .scale ≡ start .args .r .v * P (start .args .r)
   scale = ap (λ (x : Record). x .scale) (c .accepted .ensures)
 
-  ports : c .accepted .result .ports ≡ P r
+  ports : c .accepted .result .ports ≡ P (start .args .r)
   ports = ap (λ (x : Record). x .ports) (c .accepted .ensures)
 
-  -- what `expand` asks of a table that has the weights of all entries
-  expands : {apart : ℕ} {stored : List ℤ} → Sampled apart stored → Spaced apart (take n phases)
-      → Sampled apart stored × (n ≤ length phases) × (2 * n ≤ length (start .args .out .now)) × Reduced (take n phases)
-      × Spaced apart (take n phases)
-  expands s m = (
-    s,
-    omega (arith, entries-few _ in-range, scale, c .before .before .matrix .kept),
-    omega (arith, judged-accepted _ _ _ _ (judged-as (passed .before .before)) (passed .if1 .left) .fits, scale),
-    front-reduced _ _ _ scale (c .before .before .matrix .ensures),
-    m,
-  )
+  room : 2 * c .accepted .result .scale ≤ length (start .args .out .now)
+  room = omega (arith, judged-accepted _ _ _ _ (judged-as (passed .before .before)) (passed .if1 .left) .fits, scale)
 
-  answers : {o : List ℤ} → o ≡ numbers (map weight (take n phases)) ++ drop (2 * n) (start .args .out .now)
-      → Weights r (start .args .beams .now) (start .args .ranks) (start .args .out .now) (c .accepted .result) o
+  answers : {o : List ℤ}
+      → o ≡ weightsOf (start .args .r) ++ drop (2 * c .accepted .result .scale) (start .args .out .now)
+      → Weights (start .args .r) (start .args .beams .now) (start .args .ranks) (start .args .out .now) (c .accepted .result) o
   answers f =
       accepted-answers _ _ _ _ (judged-as (passed .before .before)) (passed .if1 .left) _ _ _ (c .accepted .ensures)
-      (length-weights _ in-range ∙ ap (λ n. 2 * n) (sym scale))
-      (front-weights _ _ _ scale (c .before .before .matrix .ensures) _ f)
+      (length-weights _ in-range ∙ ap (λ n. 2 * n) (sym scale)) f
+
+cast-n : tie.Need-cast-n
+cast-n c = search needs
 
 rem-if2 : tie.Need-rem-if2
-rem-if2 c = omega (arith, ports (c .before), in-range (c .before) .some, in-range (c .before) .fit)
+rem-if2 c =
+    let a = c .before .before in
+    omega (arith, ports a, in-range a .some, in-range a .fit)
 
-coarse-requires : tie.Need-coarse-requires
-coarse-requires c κs = search needs
-
-slice-aggregate-expand : tie.Need-slice-aggregate-expand
-slice-aggregate-expand c = search needs
-
-slice-aggregate-expand-2 : tie.Need-slice-aggregate-expand-2
-slice-aggregate-expand-2 c = search needs
-
-cast-expand : tie.Need-cast-expand
-cast-expand c = search needs
-
-expand-requires : tie.Need-expand-requires
-expand-requires c κs =
-    let t = c .before .before .before .before in
-    let a = t .before .before .before in
-    let divides = ap (λ p. 16 % p) (sym (ports a)) ∙ t .before .if2 .taken in
-    expands a (record { whole = refl; same = t .coarse .ensures })
-    (front-spaced _ _ _ (scale a) (a .before .before .matrix .ensures) (matrix-coarse _ (in-range a) divides))
+by-coarse-table-requires : tie.Need-by-coarse-table-requires
+by-coarse-table-requires c κs =
+    let a = c .before .before .before .before in
+    (in-range a, choice a, scale a, room a, ap (λ p. 16 % p) (sym (ports a)) ∙ c .before .if2 .taken)
 
 same-length : tie.Need-same-length
 same-length c = search needs
 
 returns-2 : tie.Need-returns-2
-returns-2 c =
-    answers (c .before .before .before .before .before .before .before .before .before) (c .before .expand .ensures)
+returns-2 c = answers (c .before .before .before .before .before .before) (c .before .by-coarse-table .ensures)
 
-table-requires : tie.Need-table-requires
-table-requires c κs = search needs
-
-slice-aggregate-expand-3 : tie.Need-slice-aggregate-expand-3
-slice-aggregate-expand-3 c = search needs
-
-slice-aggregate-expand-4 : tie.Need-slice-aggregate-expand-4
-slice-aggregate-expand-4 c = search needs
-
-cast-expand-2 : tie.Need-cast-expand-2
-cast-expand-2 c = search needs
-
-expand-requires-2 : tie.Need-expand-requires-2
-expand-requires-2 c κs =
-    let t = c .before .before .before .before in
-    expands (t .before .before .before) (record { whole = refl; same = t .table .ensures ∙ ap numbers sampled-one })
-    (record { each = λ i h. mod-one _ })
+by-table-requires : tie.Need-by-table-requires
+by-table-requires c κs =
+    let a = c .before .before .before .before in
+    (in-range a, choice a, scale a, room a)
 
 same-length-2 : tie.Need-same-length-2
 same-length-2 c = search needs
 
 returns-3 : tie.Need-returns-3
-returns-3 c =
-    answers (c .before .before .before .before .before .before .before .before .before) (c .before .expand2 .ensures)
+returns-3 c = answers (c .before .before .before .before .before .before) (c .before .by-table .ensures)
 
 pub weights-spec : {M : Type 1} → statement M
 weights-spec =
@@ -161,21 +101,12 @@ weights-spec =
     judge-requires
     refused-requires
     returns
-    slice-aggregate-matrix
-    matrix-requires
     accepted-requires
+    cast-n
     rem-if2
-    coarse-requires
-    slice-aggregate-expand
-    slice-aggregate-expand-2
-    cast-expand
-    expand-requires
+    by-coarse-table-requires
     same-length
     returns-2
-    table-requires
-    slice-aggregate-expand-3
-    slice-aggregate-expand-4
-    cast-expand-2
-    expand-requires-2
+    by-table-requires
     same-length-2
     returns-3)

@@ -21,28 +21,28 @@ Inv-loop out₀ at w n beam co q₀ to₀ out q to =
 abbrev μ-loop : tie.MeasureT-loop
 μ-loop out₀ at w n beam co q₀ to₀ out q to = n - q
 
--- the blocks from q on are within the buffer, and so are sixteen entries more
+-- the first q blocks are within the buffer, the last of them with sixteen entries
 room : (s : tie.Start Inv-loop μ-loop) (q : ℕ) → q ≤ s .args .n
-    → s .args .at + q * s .args .w + 16 ≤ length (s .args .out .now)
+    → s .args .at + q * s .args .w + 16 ≤ length (s .args .out .now) + s .args .w
 room s q h = omega (arith, mul-le-mul-right (s .args .w) h, s .pre .3)
 
 four : (s : tie.Start Inv-loop μ-loop) → length (s .args .t6) ≡ 4
 four s = omega arith
 
 put-requires : tie.Need-put-requires Inv-loop μ-loop
-put-requires c κs = omega (arith, room (c .before .before) 0 (omega arith))
+put-requires c κs = omega (arith, room (c .before .before) 1 (c .before .before .pre .1))
 
 add-to : tie.Need-add-to Inv-loop μ-loop
 add-to c =
     let s = c .before .before .before .before .before in
-    omega (arith, room s 1 (s .pre .1))
+    omega (arith, room s 1 (s .pre .1), s .pre .0)
 
 loop-holds : tie.Need-loop-holds Inv-loop μ-loop
 loop-holds c =
     let put = c .before .before .put in
     let s = c .before .before .before .before .before in
     let a = s .args in
-    let here = length-take-le (a .at) (a .out .now) (omega (arith, room s 0 (omega arith))) in
+    let here = length-take-le (a .at) (a .out .now) (omega (arith, room s 1 (s .pre .1))) in
     let front = front-kept (take (a .at) (a .out .now)) (a .beam) (drop (a .at + 16) (a .out .now)) (a .at) (put .ensures)
     here in
     let first = first-block-written (a .t6) (a .beam) (a .w) (omega (arith, s .pre .0)) (take (a .at) (a .out .now))
@@ -57,7 +57,7 @@ block-requires c κs =
     let l = c .before .before .loop in
     let b = c .before .before .before .before .before in
     let s = b .before .before .before in (
-      omega (arith, room s (l .q) (omega arith), l .inv, b .put .kept .0),
+      omega (arith, room s (l .q + 1) (omega arith), l .inv, b .put .kept .0),
       s .pre .5 .below _ (omega (arith, s .pre .2)),
       s .pre .6,
     )
@@ -66,7 +66,7 @@ add-to-2 : tie.Need-add-to-2 Inv-loop μ-loop
 add-to-2 c =
     let t = c .before .before .before .before in
     let s = t .before .before .before .before .before .before .before in
-    omega (arith, room s (t .before .loop .q + 1) (omega arith), t .before .loop .inv)
+    omega (arith, room s (t .before .loop .q + 1) (omega arith), s .pre .0, t .before .loop .inv)
 
 add-q : tie.Need-add-q Inv-loop μ-loop
 add-q c = omega arith
@@ -81,7 +81,7 @@ loop-again c =
     let l = t .before .loop in
     let p = t .before .before .before .before in
     let s = p .before .before .before in
-    let fits = room s (l .q) (omega arith) in (
+    let fits = room s (l .q + 1) (omega arith) in (
       omega arith,
       omega arith,
       omega (arith, l .inv .2),
@@ -100,7 +100,7 @@ returns c =
     let b = c .before .before .before .before in
     let s = b .before .before .before in
     let a = s .args in
-    let here = length-take-le (a .at) (a .out .now) (omega (arith, room s 0 (omega arith))) in
+    let here = length-take-le (a .at) (a .out .now) (omega (arith, room s 1 (s .pre .1))) in
     let front = front-kept (take (a .at) (a .out .now)) (a .beam) _ (a .at) (b .put .ensures) here in
     let all : l .q ≡ a .n = omega arith in
     rw (← all, ← l .inv .2, ← front) (l .inv .3)

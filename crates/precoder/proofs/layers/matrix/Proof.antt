@@ -10,7 +10,7 @@ use lib.ListN.{length, take, drop, List·getD-map}
 use lib.Seq.{take-all}
 use Rattle.codebook.specs.Settings.{ports}
 use Rattle.codebook.specs.Columns.{ranks}
-use Rattle.codebook.specs.Matrix.{Layer, columnOf, join, matrix, layers}
+use Rattle.codebook.specs.Matrix.{Layer, columnOf, join, matrix, layers, rows}
 use Rattle.codebook.proofs.Known.{Known, known}
 use Rattle.codebook.proofs.Layers.{length-layers, column-sized}
 use Rattle.precoder.specs.declared.layers.Frame.{Frame}
@@ -98,8 +98,8 @@ width s = ports (s .args .r .n1) (s .args .r .n2)
 
 -- what a turn writes is within the buffer
 room : (t : tie.In-loop Inv-loop μ-loop)
-    → t .before .loop .at + width (t .before .before .before .before .before .before .before) + 16
-    ≤ length (t .before .loop .out)
+    → let s = t .before .before .before .before .before .before .before in
+    t .before .loop .at + width s + 16 ≤ length (t .before .loop .out) + rows (s .args .r) * s .args .r .n2
 room t =
     let s = t .before .before .before .before .before .before .before in
     omega (arith, mul-le-mul-right (width s) (t .loop-test .taken), t .before .loop .inv, s .pre .2)
@@ -114,7 +114,7 @@ blocks-requires c κs =
       block-room s frame,
       omega (arith, few, frame .blocks),
       omega (arith, few, frame .blocks),
-      omega (arith, room t, ports-written s frame),
+      rw (frame .rows, frame .blocks) (omega (arith, room t, column-sized (s .args .r) (s .pre .0 .setting) .all)),
       y .first,
       y .reduced,
       c .before .beam-for .ensures .reduced,
@@ -123,7 +123,8 @@ blocks-requires c κs =
 add-at : tie.Need-add-at Inv-loop μ-loop
 add-at c =
     let t = c .before .before .before .before .before .before .before in
-    omega (arith, room t, t .before)
+    let s = t .before .before .before .before .before .before .before in
+    omega (arith, room t, block-fits (s .args .r) (s .pre .0 .setting), t .before)
 
 add-j : tie.Need-add-j Inv-loop μ-loop
 add-j c = omega arith
