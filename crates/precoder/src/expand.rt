@@ -1,4 +1,5 @@
 // Weights: the matrix of a report in a buffer of its own, and each phase looked up in a table.
+use crate::MOST;
 use crate::layers::matrix;
 use codebook::Choice;
 use codebook::Report;
@@ -13,10 +14,7 @@ ghost use Rattle.precoder.specs.Answer.{P, weightsOf};
 ghost use Rattle.precoder.specs.Layer.{Reduced};
 ghost use Rattle.precoder.specs.Lookup.{Sampled, Spaced};
 
-// The entries of the largest matrix, 8 layers of 32 ports.
-const MOST: usize = 256;
-
-// Those for 16 ports, and sixteen more: the last block is written with that many.
+// The entries of the largest matrix of 16 ports, and sixteen more: the last block is written with that many.
 const MOST_COARSE: usize = 128 + 16;
 
 // The parts of a turn from one entry of the coarse table to the next.
