@@ -38,11 +38,26 @@ def fit(points):
     mean_x, mean_y = sum(x for x, _ in points) / n, sum(y for _, y in points) / n
     slope = sum((x - mean_x) * (y - mean_y) for x, y in points) / sum((x - mean_x) ** 2 for x, _ in points)
     start = mean_y - slope * mean_x
-    return slope, start, max((y - start - slope * x for x, y in points), key=abs)
+    return start, slope, max(abs(y - start - slope * x) for x, y in points)
 
 
 def row(cells):
     return '| ' + ' | '.join(cells) + ' |'
+
+
+def growth(mean, what, letter, keys, part):
+    """Prints the instructions at the keys, which grow in one of their parts, and the straight line nearest to them."""
+    print(f'Growth with {what}:')
+    print()
+    print(row(['Function', 'Version', *(f'{letter} = {key[part]}' for key in keys), 'Nearest line', 'Largest distance']))
+    print(row(['---', '---'] + ['--:'] * (len(keys) + 2)))
+    for f in FUNCTIONS:
+        for version, name in (('ours', 'ours'), ('c', 'C')):
+            counts = [mean[key + (f, version)] for key in keys]
+            start, slope, far = fit([(key[part], count) for key, count in zip(keys, counts)])
+            cells = [*(f'{count:.0f}' for count in counts), f'{start:.0f} + {slope:.1f}·{letter}', f'{far:.0f}']
+            print(row([f, name, *cells]))
+    print()
 
 
 def main():
@@ -82,15 +97,8 @@ def main():
     both, most, word = target(max(places)[0], WORST_TO_EIGEN)
     print(row(['ours to Eigen, worst', *(f'{x:.3f} at {at}' for x, at in places), both, most, word]))
     print()
-    print('Growth with the entries v·P, the nearest straight line over all settings and ranks:')
-    print()
-    print(row(['Function', 'Version', 'For each entry', 'For each call', 'Largest distance from the line']))
-    print(row(['---', '---', '--:', '--:', '--:']))
-    for f in FUNCTIONS:
-        for version, name in (('ours', 'ours'), ('c', 'C')):
-            slope, start, far = fit([(k[0] * k[3], mean[k + (f, version)]) for k in keys])
-            print(row([f, name, f'{slope:.2f}', f'{start:.0f}', f'{far:+.0f}']))
-    print()
+    growth(mean, 'the ports, one layer and N2 = 1', 'P', [key for key in keys if key[3] == 1 and key[2] == 1], 0)
+    growth(mean, 'the layers, (16,1)', 'v', [key for key in keys if key[1] == 16], 3)
     print('Instructions of a call, mean over the measured reports:')
     print()
     print(row(['P', '(N1,N2)', 'v', 'Phases', 'C', 'to C', 'Eigen', 'to Eigen',
