@@ -1,5 +1,6 @@
 // Weights: the matrix of a report in a buffer of its own, and each phase looked up in a table.
 use crate::MOST;
+use crate::fill::PLACES;
 use crate::layers::matrix;
 use codebook::Choice;
 use codebook::Report;
@@ -14,8 +15,8 @@ ghost use Rattle.precoder.specs.Answer.{P, weightsOf};
 ghost use Rattle.precoder.specs.Layer.{Reduced};
 ghost use Rattle.precoder.specs.Lookup.{Sampled, Spaced};
 
-// The entries of the largest matrix of 16 ports, and sixteen more: the last block is written with that many.
-const MOST_COARSE: usize = 128 + 16;
+// The entries of the largest matrix of 16 ports, and those with which its last block is written.
+const MOST_COARSE: usize = 128 + PLACES;
 
 // The parts of a turn from one entry of the coarse table to the next.
 const COARSE_STEP: usize = (turn::TURN / 32) as usize;

@@ -7,6 +7,9 @@ ghost use Rattle.turn.specs.Phase.{turn, phase};
 ghost use Rattle.turn.specs.Column.{grid, column};
 ghost use Rattle.precoder.specs.Layer.{Reduced, Holds, after};
 
+// The places of a beam, the most entries that one has: what reads them has the same number of steps whatever the setting.
+pub const PLACES: usize = 16;
+
 // The phase x turned by c, in bytes alone.
 fn turned(x: u8, c: u8) -> u8
     requires { ⌜ (x < turn) × (c < turn) ⌝ }
@@ -62,13 +65,12 @@ fn advanced(c: Cursor, w: usize, across: u32, down: u32) -> Cursor
     }
 }
 
-// A beam: n rows of w entries, `down` more from entry to entry and `across` more from row to row. It has sixteen places,
-// the most that a beam needs, so that what reads it has the same number of steps whatever the setting.
-pub fn draw(n: usize, w: usize, across: u32, down: u32) -> [u8; 16]
+// A beam: n rows of w entries, `down` more from entry to entry and `across` more from row to row.
+pub fn draw(n: usize, w: usize, across: u32, down: u32) -> [u8; PLACES]
     requires { ⌜ (1 ≤ w) × (n * w ≤ 16) × (across < turn) × (down < turn) ⌝ }
     ensures { λ b. ⌜ Holds (grid n across w down) b ⌝ }
 {
-    let mut beam = [0; 16];
+    let mut beam = [0; PLACES];
     let end = n * w;
     let mut c = Cursor {
         left: w,
@@ -85,25 +87,25 @@ pub fn draw(n: usize, w: usize, across: u32, down: u32) -> [u8; 16]
 }
 
 // Sixteen entries from place `at` on: the beam as it is.
-fn put(out: &mut [u8], at: usize, beam: [u8; 16])
+fn put(out: &mut [u8], at: usize, beam: [u8; PLACES])
     requires { ⌜ at + 16 ≤ length (now out) ⌝ }
     ensures { λ _. ⌜ now (out .exit) ≡ take at (now (out .entry)) ++ beam ++ drop (at + 16) (now (out .entry)) ⌝ }
 {
     let mut i = 0;
-    while i < 16 {
+    while i < PLACES {
         out[at + i] = beam[i];
         i += 1;
     }
 }
 
 // Sixteen entries from place `at` on: the beam turned by c.
-fn block(out: &mut [u8], at: usize, beam: [u8; 16], c: u8)
+fn block(out: &mut [u8], at: usize, beam: [u8; PLACES], c: u8)
     requires { ⌜ (at + 16 ≤ length (now out)) × (c < turn) × Reduced beam ⌝ }
     ensures { λ _. ⌜ now (out .exit)
         ≡ take at (now (out .entry)) ++ column (c ∷ []) beam ++ drop (at + 16) (now (out .entry)) ⌝ }
 {
     let mut i = 0;
-    while i < 16 {
+    while i < PLACES {
         let x = beam[i];
         out[at + i] = turned(x, c);
         i += 1;
@@ -112,7 +114,7 @@ fn block(out: &mut [u8], at: usize, beam: [u8; 16], c: u8)
 
 // A column from place `at` on: n blocks of w entries, block q the beam turned by co[q]. A block is written with all sixteen
 // places of the beam, and the next one over those past its w entries, so that some entries after the column change.
-pub fn blocks(out: &mut [u8], at: usize, w: usize, n: usize, beam: [u8; 16], co: [u8; 4])
+pub fn blocks(out: &mut [u8], at: usize, w: usize, n: usize, beam: [u8; PLACES], co: [u8; 4])
     requires { ⌜ (w ≤ 16) × (1 ≤ n) × (n ≤ 4) × (at + n * w + 16 ≤ length (now out) + w) × (getD co 0 0 ≡ 0)
         × Reduced co × Reduced beam ⌝ }
     ensures { λ _. ⌜ take (at + n * w) (now (out .exit))

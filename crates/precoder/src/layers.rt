@@ -1,4 +1,5 @@
 // The layers of an accepted report: the columns by rank.
+use crate::fill::PLACES;
 use crate::fill::blocks;
 use crate::fill::draw;
 use codebook::Choice;
@@ -110,7 +111,7 @@ fn layer_of(r: Report, s: Frame, digit: u32) -> Layer
 }
 
 // The beam at a place.
-fn beam_at(r: Report, c: Choice, s: Frame, place: usize) -> [u8; 16]
+fn beam_at(r: Report, c: Choice, s: Frame, place: usize) -> [u8; PLACES]
     requires { ⌜ InRange r × (c ≡ accepted r) × Framed r s × (place < 4) ⌝ }
     ensures { λ b. ⌜ Holds (blockAt r place) b ⌝ }
 {
@@ -122,7 +123,14 @@ fn beam_at(r: Report, c: Choice, s: Frame, place: usize) -> [u8; 16]
 }
 
 // The beam at a place, where the one at the place `drawn` stands: layers that follow each other often have the same.
-fn beam_for(r: Report, c: Choice, s: Frame, place: usize, drawn: usize, beam: [u8; 16]) -> [u8; 16]
+fn beam_for(
+    r: Report,
+    c: Choice,
+    s: Frame,
+    place: usize,
+    drawn: usize,
+    beam: [u8; PLACES],
+) -> [u8; PLACES]
     requires { ⌜ InRange r × (c ≡ accepted r) × Framed r s × (place < 4) × Stands r drawn beam ⌝ }
     ensures { λ b. ⌜ Holds (blockAt r place) b ⌝ }
 {
@@ -142,7 +150,7 @@ pub fn matrix(r: Report, c: Choice, out: &mut [u8])
     let ports = 2 * (r.n1 * r.n2) as usize;
     let v = r.v;
     let mut digits = RANKS[(v - 1) as usize];
-    let mut beam = [0; 16];
+    let mut beam = [0; PLACES];
     let mut drawn = NONE;
     let mut j = 0;
     let mut at = 0;
