@@ -1,10 +1,11 @@
 #!/usr/bin/env python3
-"""Checks docs/CLAIMS.md against the proofs: every theorem of Demands has its row, in order, and every theorem named is found where it says.
+"""Checks docs/CLAIMS.md against the proofs: every theorem of Demands has its row, in order, and every theorem named is
+found where it says.
 
 usage: tests/claims.py
 
-A row of the first table is `| theorem | demand | ..` and speaks of Demands.antt; a row of the second is `| theorem | file | ..`. Names in the text
-must stand in one of the tables. The last line is `N passed, M failed`.
+A row of the first table is `| theorem | demand | ..` and speaks of Demands.antt; a row of the second is `| theorem | file
+| ..`. Names in the text must stand in one of the tables. The last line is `N passed, M failed`.
 """
 import re
 import sys

@@ -138,7 +138,7 @@ pub phases-held : {o : List ℕ} (ys : List ℕ) (k : ℕ) → length ys ≡ k �
     → length o ≡ 16 → Holds ys o
 phases-held ys k l e f = record {
   places = f;
-  reduced = record { below = λ i h. rw e (below-append (map phase ys) (drop k (replicate 16 0)) (phases-below ys) zeros i) };
+  reduced = record { below = λ i h. rw e (below-append (map phase ys) _ (phases-below ys) zeros i) };
   front = rw (l, e) (take-at (map phase ys) (drop k (replicate 16 0)) k (length-map ys phase ∙ l));
 }
   where

@@ -103,7 +103,8 @@ module _ {c : Choice} {s : Frame} (r : Report) (h : InRange r) (e : c ≡ accept
   down-below = omega (arith, down-step, step-reduced (r .n2) (o2 (r .n2)) (k .down-parts) (there .m))
 
   -- the beam that the code draws of them
-  pub beam-drawn : grid (s .rows) (getD (c .l) place 0 * s .across) (r .n2) (getD (c .m) place 0 * s .down) ≡ blockAt r place
+  pub beam-drawn : grid (s .rows) (getD (c .l) place 0 * s .across) (r .n2) (getD (c .m) place 0 * s .down)
+      ≡ blockAt r place
   unfolding block
   beam-drawn = rw (f .rows, across-step, down-step)
 

@@ -57,9 +57,9 @@ module _ (c : tie.After-accepted) where
   room : 2 * c .accepted .result .scale ≤ length (start .args .out .now)
   room = omega (arith, judged-accepted _ _ _ _ (judged-as (passed .before .before)) (passed .if1 .left) .fits, scale)
 
-  answers : {o : List ℤ}
-      → o ≡ weightsOf (start .args .r) ++ drop (2 * c .accepted .result .scale) (start .args .out .now)
-      → Weights (start .args .r) (start .args .beams .now) (start .args .ranks) (start .args .out .now) (c .accepted .result) o
+  answers : {o : List ℤ} → let a = start .args in
+      o ≡ weightsOf (a .r) ++ drop (2 * c .accepted .result .scale) (a .out .now)
+      → Weights (a .r) (a .beams .now) (a .ranks) (a .out .now) (c .accepted .result) o
   answers f =
       accepted-answers _ _ _ _ (judged-as (passed .before .before)) (passed .if1 .left) _ _ _ (c .accepted .ensures)
       (length-weights _ in-range ∙ ap (λ n. 2 * n) (sym scale)) f

@@ -12,7 +12,9 @@ slice-aggregate-matrix : tie.Need-slice-aggregate-matrix
 slice-aggregate-matrix c = search needs
 
 matrix-requires : tie.Need-matrix-requires
-matrix-requires c κs = (c .before .pre .0, c .before .pre .1, omega (arith, coarse-few _ (c .before .pre .0) (c .before .pre .4)))
+matrix-requires c κs =
+    let s = c .before in
+    (s .pre .0, s .pre .1, omega (arith, coarse-few _ (s .pre .0) (s .pre .4)))
 
 coarse-requires : tie.Need-coarse-requires
 coarse-requires c κs = search needs

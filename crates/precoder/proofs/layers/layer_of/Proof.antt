@@ -1,5 +1,5 @@
--- `layers::layer_of` meets its contract: what it adds is what the definition's layer has, reduced, and the blocks tell which
--- of the two kinds of layer that is. Assumes nothing.
+-- `layers::layer_of` meets its contract: what it adds is what the definition's layer has, reduced, and the blocks tell
+-- which of the two kinds of layer that is. Assumes nothing.
 use mathlib.Core.Path.{sym, _∙_}
 use Prim.Native.Nat.{_+_, _/_}
 use borrow.Author.Needs.{needs}

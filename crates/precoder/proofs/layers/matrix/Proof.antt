@@ -165,7 +165,7 @@ returns c =
     let r = s .args .r in
     let all : l .j ≡ r .v = omega arith in
     let last : length (layers r) ≤ l .j = omega (arith, length-layers r (s .pre .0)) in
-    let long : r .v * ports (r .n1) (r .n2) ≡ l .at = ap (λ (n : ℕ). n * ports (r .n1) (r .n2)) (sym all) ∙ sym (l .inv .1) in
+    let long : r .v * ports (r .n1) (r .n2) ≡ l .at = ap (λ (n : ℕ). n * width s) (sym all) ∙ sym (l .inv .1) in
     let whole = ap (λ (ys : List Layer). join (map (columnOf r) ys)) (take-all (l .j) (layers r) last) in
     ap (λ (n : ℕ). take n (l .out)) long ∙ l .inv .3 ∙ whole
 
