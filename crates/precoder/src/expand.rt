@@ -55,8 +55,8 @@ pub fn by_table(r: Report, c: Choice, n: usize, out: &mut [i16])
 }
 
 // The same where P divides 16. There all phases are whole 32nds of a turn, so that a table of these serves, and there are
-// at most 8 layers of 16 ports. A call builds its table and its buffer, and for few entries building the whole ones would
-// cost more than all else.
+// at most 8 layers of 16 ports. A call builds its table and its buffer, which for few entries is much of what it costs, so
+// that small ones pay.
 pub fn by_coarse_table(r: Report, c: Choice, n: usize, out: &mut [i16])
     requires { ⌜ InRange r × (c ≡ accepted r) × (n ≡ r .v * P r) × (2 * n ≤ length (now out)) × (16 % P r ≡ 0) ⌝ }
     ensures { λ _. ⌜ now (out .exit) ≡ weightsOf r ++ drop (2 * n) (now (out .entry)) ⌝ }
