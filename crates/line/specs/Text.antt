@@ -30,7 +30,7 @@ unfoldable pub answerTo : Report → ℕ → Answer
 answerTo r zero = Accepted (recordOf r 0)
 answerTo r (suc k) = Refused (suc k)
 
--- `ok`, `refused` or `unreadable`
+-- `ok`, `refused` or `unreadable`, in ASCII
 unfoldable pub wordOf : Answer → List ℕ
 wordOf (Accepted a) = 111 ∷ 107 ∷ []
 wordOf (Refused k) = 114 ∷ 101 ∷ 102 ∷ 117 ∷ 115 ∷ 101 ∷ 100 ∷ []

@@ -33,10 +33,11 @@ pub struct Printed {
 }
 
 // The bytes of the longest line that is read, with its newline.
-const LONGEST_LINE: usize = 256;
+pub const LONGEST_LINE: usize = 256;
 
-// The bytes of the longest text: `ok 32 8 256`, and 8 lines of 32 phases, each of three digits and what follows it.
-const LONGEST_TEXT: usize = 12 + 8 * 32 * 4;
+// The bytes of the longest text: `ok 32 8 256`, and 8 lines of 32 phases, each of three digits and what follows it. A
+// buffer of so many has room for every answer.
+pub const LONGEST_TEXT: usize = 12 + 8 * 32 * 4;
 
 // The report of eight numbers, in the order of a line.
 fn report_of(numbers: [u32; 8]) -> Report

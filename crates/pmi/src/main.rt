@@ -4,9 +4,9 @@ use libc::STDOUT_FILENO;
 
 fn main() {
     // one byte more than the longest line, so that a longer one is seen to be longer
-    let mut line = [0; 257];
+    let mut line = [0; line::LONGEST_LINE + 1];
     let n = io::read_full(STDIN_FILENO, &mut line);
-    let mut text = [0; 1036];
+    let mut text = [0; line::LONGEST_TEXT];
     let p = line::print(&line[..n], &mut text);
     let written = p.length;
     io::write_all(STDOUT_FILENO, &text[..written]);
