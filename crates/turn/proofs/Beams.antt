@@ -4,22 +4,15 @@ use mathlib.Core.Logic.{_≢_, _⊎_, inl, inr}
 use mathlib.Core.List.{List, map}
 use Prim.Native.Nat.{ℕ, _+_, _*_, _/_, _%_}
 use lib.ListN.{length}
+use Rattle.turn.specs.Apart.{Apart, Common}
 use Rattle.turn.specs.Phase.{turn, phase}
 use Rattle.turn.specs.Column.{Setting, Divides, steps, product, beam}
 use Rattle.turn.specs.Exact.{differences}
 use Rattle.turn.proofs.Lists.{length-beam}
-use Rattle.turn.proofs.Invariant.{Invariant, invariant-left, invariant-right, invariant-phases, invariant-steps}
+use Rattle.turn.specs.Cancel.{Invariant}
+use Rattle.turn.proofs.Invariant.{invariant-left, invariant-right, invariant-phases, invariant-steps}
 use Rattle.turn.proofs.Differences.{differences-grid}
 use Rattle.turn.proofs.Steps.{gap, step-gap, gap-round, gap-some, gap-multiple}
-
--- (j1,j2) and (k1,k2) times the oversampling lead to two beams and not to one
-abbrev pub Apart : Setting → ℕ → ℕ → ℕ → ℕ → Type 0
-Apart c j1 j2 k1 k2 = (j1 % c .n1 ≢ k1 % c .n1) ⊎ (j2 % c .n2 ≢ k2 % c .n2)
-
--- m divides the N1th and the N2th part of a turn
-pub record Common (c : Setting) (m : ℕ) : Type 0 where
-  pub rows : turn / c .n1 % m ≡ 0
-  pub columns : turn / c .n2 % m ≡ 0
 
 -- some turn only permutes xs: no whole one, and a multiple of whatever divides both the N1th and the N2th part of a
 -- turn

@@ -7,25 +7,21 @@ use mathlib.Core.List.{List, map}
 use Prim.Native.Nat.{ℕ, _+_, _*_}
 use native.Mathlib.Omega.{arith}
 use lib.ListN.{length}
+use Rattle.turn.specs.Cancel.{Coarse, Cancels, opposites, thirds}
 use Rattle.turn.specs.Phase.{half, third, twelfth, phase}
 use Rattle.turn.specs.Column.{Setting, Divides, beam, column}
 use Rattle.turn.specs.Exact.{differences, Orthogonal}
-use Rattle.turn.proofs.Invariant.{Invariant}
+use Rattle.turn.specs.Cancel.{Invariant}
 use Rattle.turn.proofs.Zero.{to-half, half-or-third}
 use Rattle.turn.proofs.Differences.{differences-column}
 use Rattle.turn.proofs.Steps.{gap-multiple}
-use Rattle.turn.proofs.Beams.{Apart, Common, same-length, differences-beams, beams-turned}
-use Rattle.turn.proofs.Opposites.{flipped, Even, opposites-invariant}
-use Rattle.turn.proofs.Multiples.{Multiples, multiples-steps, multiples-product, multiples-phases}
+use Rattle.turn.specs.Apart.{Apart, Common}
+use Rattle.turn.proofs.Beams.{same-length, differences-beams, beams-turned}
+use Rattle.turn.specs.Apart.{flipped, Even}
+use Rattle.turn.proofs.Opposites.{opposites-invariant}
+use Rattle.turn.specs.Cancel.{Multiples}
+use Rattle.turn.proofs.Multiples.{multiples-steps, multiples-product, multiples-phases}
 use Rattle.turn.proofs.Orthogonal.{orthogonal-turned, turned-by-beams, turned-by-co-phases}
-
--- whole twelfths of a turn
-abbrev pub Coarse : List ℕ → Type 0
-Coarse xs = Multiples twelfth xs
-
-pub data Cancels (xs : List ℕ) : Type 0 where
-  opposites : Invariant half xs → Cancels xs
-  thirds : Invariant third xs → Coarse xs → Cancels xs
 
 -- what cancels is exactly zero
 pub cancels-orthogonal : (xs ys : List ℕ) → Cancels (differences xs ys) → Orthogonal xs ys

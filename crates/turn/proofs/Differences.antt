@@ -8,7 +8,8 @@ use lib.ListN.{length, length-map}
 use Rattle.turn.specs.Phase.{turn, phase, difference}
 use Rattle.turn.specs.Column.{steps, product, grid, column}
 use Rattle.turn.specs.Exact.{differences}
-use Rattle.turn.proofs.Lists.{map-append, length-steps}
+use Rattle.ground.proofs.Lists.{map-append}
+use Rattle.turn.proofs.Lists.{length-steps}
 
 -- ---- one port
 

@@ -10,7 +10,8 @@ use lib.ListN.{length, getD, length-map, List·getD-append}
 use lib.Seq.{getD-at, getD-append-add}
 use Rattle.turn.specs.Phase.{turn, phase}
 use Rattle.turn.specs.Column.{Setting, Divides, steps, product, grid, step, beam, column}
-use Rattle.turn.proofs.Lists.{map-at, length-steps, length-product, length-beam}
+use Rattle.ground.proofs.Lists.{map-at}
+use Rattle.turn.proofs.Lists.{length-steps, length-product, length-beam}
 use Rattle.turn.proofs.Steps.{left-pos}
 
 pub steps-entry : (n s i : ℕ) → i < n → getD (steps n s) i 0 ≡ i * s

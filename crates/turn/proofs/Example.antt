@@ -10,7 +10,8 @@ use lib.Dec.{T, eqb, eqb→eq}
 use Rattle.turn.specs.Phase.{half, third, difference}
 use Rattle.turn.specs.Column.{Setting, steps, product, grid, step, beam, column}
 use Rattle.turn.specs.Exact.{count, differences, Orthogonal}
-use Rattle.turn.proofs.Tests.{every, every-at, or-cases}
+use Rattle.ground.specs.Lists.{every}
+use Rattle.ground.proofs.Tests.{every-at, or-cases}
 use Rattle.turn.proofs.Orthogonal.{beams-orthogonal}
 
 unfoldable pub setting : Setting

@@ -6,13 +6,10 @@ use native.Mathlib.Nat.{zero-mul, suc-mul}
 use native.Mathlib.Omega.{arith}
 use Rattle.turn.specs.Phase.{phase}
 use Rattle.turn.specs.Column.{steps, product}
-use Rattle.turn.proofs.Totals.{total, total-cong, total-append, total-map, total-product, Steady, steady-same}
+use Rattle.turn.specs.Cancel.{Invariant}
+use Rattle.turn.specs.Cancel.{total, Steady}
+use Rattle.turn.proofs.Totals.{total-cong, total-append, total-map, total-product, steady-same}
 use Rattle.turn.proofs.Totals.{steady-shift, steady-total}
-
--- A turn by g only permutes the phases xs: no function of a phase has another total after it. (Of the function that
--- is 1 at e and else 0: as many are at e + g as at e.)
-pub record Invariant (g : ℕ) (xs : List ℕ) : Type 0 where
-  pub turned : (f : ℕ → ℕ) → Steady f → total (λ x. f (x + g)) xs ≡ total f xs
 
 -- two turns, one after the other
 pub invariant-add : {g h : ℕ} {xs : List ℕ} → Invariant g xs → Invariant h xs → Invariant (g + h) xs

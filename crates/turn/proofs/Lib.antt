@@ -1,7 +1,5 @@
 -- The laws, from the ground up; `Orthogonal` and `Cancel` are what other crates come for.
 pub mod Unique
-pub mod Tests
-pub mod All
 pub mod Lists
 pub mod Steps
 pub mod Entries

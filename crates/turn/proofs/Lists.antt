@@ -7,17 +7,6 @@ use native.Mathlib.Omega.{arith}
 use lib.ListN.{length, getD, length-append, length-map}
 use Rattle.turn.specs.Column.{Setting, steps, product, grid, beam}
 
-pub map-append : (f : ℕ → ℕ) (xs ys : List ℕ) → map f (xs ++ ys) ≡ map f xs ++ map f ys
-map-append f [] ys = refl
-map-append f (x ∷ xs) ys = ap {B = List ℕ} (λ l. f x ∷ l) (map-append f xs ys)
-
--- an element of a list that is mapped; past its end x and y stand
-pub map-at : {A B : Type 0} (f : A → B) (xs : List A) (i : ℕ) (x : A) (y : B) → i < length xs
-    → getD (map f xs) i y ≡ f (getD xs i x)
-map-at f [] i x y h = absurd (not-suc-le-zero h)
-map-at f (z ∷ xs) zero x y h = refl
-map-at f (z ∷ xs) (suc i) x y h = map-at f xs i x y (le-of-suc-le-suc h)
-
 pub length-steps : (n s : ℕ) → length (steps n s) ≡ n
 unfolding steps
 length-steps zero s = refl

@@ -7,11 +7,20 @@ use native.Mathlib.Nat.{not-suc-le-zero, le-of-suc-le-suc}
 use lib.ListN.{length, getD}
 use Rattle.turn.specs.Phase.{turn, phase}
 use Rattle.turn.specs.Column.{steps, product, grid, step, column}
-use Rattle.turn.proofs.All.{All, none, more, all-append, all-product, all-map}
+use Rattle.ground.specs.Lists.{All, all-nil, all-cons}
+use Rattle.ground.proofs.All.{all-append, all-map}
+use Rattle.turn.specs.Cancel.{Multiples}
 use Rattle.turn.proofs.Steps.{mul-multiple}
 
-abbrev pub Multiples : ℕ → List ℕ → Type 0
-Multiples g xs = All (λ x. x % g ≡ 0) xs
+pub all-product : {P : ℕ → Type 0} {xs ys : List ℕ} → ((x y : ℕ) → P x → P y → P (x + y)) → All P xs → All P ys
+    → All P (product xs ys)
+unfolding product
+all-product add all-nil q = all-nil
+all-product {P} add (all-cons {x} h p) q = all-append (shifted x h q) (all-product add p q)
+  where
+    shifted : (x : ℕ) → P x → {ys : List ℕ} → All P ys → All P (map (λ y. x + y) ys)
+    shifted x h all-nil = all-nil
+    shifted x h (all-cons {x = y} k q) = all-cons (add x y h k) (shifted x h q)
 
 module _ (g : ℕ) where
   pub add-multiple : (x y : ℕ) → x % g ≡ 0 → y % g ≡ 0 → (x + y) % g ≡ 0
@@ -23,14 +32,14 @@ module _ (g : ℕ) where
   step-multiple n o l = mul-multiple (l % (n * o)) (turn / (n * o)) g
 
   pub multiples-at : {xs : List ℕ} → Multiples g xs → (i : ℕ) → i < length xs → getD xs i 0 % g ≡ 0
-  multiples-at none i h = absurd (not-suc-le-zero h)
-  multiples-at (more p q) zero h = p
-  multiples-at (more p q) (suc i) h = multiples-at q i (le-of-suc-le-suc h)
+  multiples-at all-nil i h = absurd (not-suc-le-zero h)
+  multiples-at (all-cons p q) zero h = p
+  multiples-at (all-cons p q) (suc i) h = multiples-at q i (le-of-suc-le-suc h)
 
   pub multiples-steps : (n s : ℕ) → s % g ≡ 0 → Multiples g (steps n s)
   unfolding steps
-  multiples-steps zero s h = none
-  multiples-steps (suc n) s h = all-append (multiples-steps n s h) (more (mul-multiple n s g h) none)
+  multiples-steps zero s h = all-nil
+  multiples-steps (suc n) s h = all-append (multiples-steps n s h) (all-cons (mul-multiple n s g h) all-nil)
 
   pub multiples-product : {xs ys : List ℕ} → Multiples g xs → Multiples g ys → Multiples g (product xs ys)
   multiples-product = all-product add-multiple

@@ -5,31 +5,11 @@ use mathlib.Core.List.{List, [], _∷_}
 use Prim.Native.Nat.{ℕ, _+_, _*_}
 use native.Mathlib.Omega.{arith}
 use lib.ListN.{length}
+use Rattle.turn.specs.Apart.{flipped, differ, agreeing, differing, Even}
 use Rattle.turn.specs.Phase.{turn, half, difference}
 use Rattle.turn.specs.Exact.{differences}
-use Rattle.turn.proofs.Totals.{total}
-use Rattle.turn.proofs.Invariant.{Invariant}
-
--- half a turn added to each co-phase that is marked
-unfoldable pub flipped : List ℕ → List Bool → List ℕ
-flipped [] ms = []
-flipped (x ∷ xs) [] = []
-flipped (x ∷ xs) (m ∷ ms) = (x + cond m half 0) ∷ flipped xs ms
-
--- in how many places two lists of marks agree, and in how many they differ
-abbrev differ : Bool → Bool → Bool
-differ true n = not n
-differ false n = n
-
-unfoldable pub agreeing : List Bool → List Bool → ℕ
-agreeing [] ns = 0
-agreeing (m ∷ ms) [] = 0
-agreeing (m ∷ ms) (n ∷ ns) = cond (differ m n) 0 1 + agreeing ms ns
-
-unfoldable pub differing : List Bool → List Bool → ℕ
-differing [] ns = 0
-differing (m ∷ ms) [] = 0
-differing (m ∷ ms) (n ∷ ns) = cond (differ m n) 1 0 + differing ms ns
+use Rattle.turn.specs.Cancel.{total}
+use Rattle.turn.specs.Cancel.{Invariant}
 
 difference-flipped : (x : ℕ) (m n : Bool) → difference (x + cond m half 0) (x + cond n half 0) ≡ cond (differ m n) half 0
 unfolding difference
@@ -54,12 +34,6 @@ total-flipped f (x ∷ xs) (m ∷ ms) (n ∷ ns) h k =
         → f (cond b half 0) + (p * f 0 + q * f half) ≡ (cond b 0 1 + p) * f 0 + (cond b 1 0 + q) * f half
     one true p q = omega arith
     one false p q = omega arith
-
--- two lists of n marks that agree as often as they differ
-pub record Even (n : ℕ) (ms ns : List Bool) : Type 0 where
-  pub first : length ms ≡ n
-  pub second : length ns ≡ n
-  pub even : agreeing ms ns ≡ differing ms ns
 
 pub opposites-invariant : (xs : List ℕ) (ms ns : List Bool) → Even (length xs) ms ns
     → Invariant half (differences (flipped xs ms) (flipped xs ns))

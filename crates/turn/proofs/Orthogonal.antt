@@ -11,11 +11,14 @@ use lib.ListN.{length}
 use Rattle.turn.specs.Phase.{turn, half, phase, difference}
 use Rattle.turn.specs.Column.{Setting, Divides, beam, column}
 use Rattle.turn.specs.Exact.{ExactZero, differences, Orthogonal}
-use Rattle.turn.proofs.Invariant.{Invariant, invariant-left, invariant-right, invariant-phases}
+use Rattle.turn.specs.Cancel.{Invariant}
+use Rattle.turn.proofs.Invariant.{invariant-left, invariant-right, invariant-phases}
 use Rattle.turn.proofs.Zero.{exact-zero}
 use Rattle.turn.proofs.Differences.{differences-column}
-use Rattle.turn.proofs.Beams.{Apart, same-length, beams-turned}
-use Rattle.turn.proofs.Opposites.{flipped, Even, opposites-invariant}
+use Rattle.turn.specs.Apart.{Apart}
+use Rattle.turn.proofs.Beams.{same-length, beams-turned}
+use Rattle.turn.specs.Apart.{flipped, Even}
+use Rattle.turn.proofs.Opposites.{opposites-invariant}
 
 phases-differences : (xs ys : List ℕ) → map phase (differences xs ys) ≡ differences xs ys
 unfolding differences difference

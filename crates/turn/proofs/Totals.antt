@@ -7,10 +7,7 @@ use native.Mathlib.Nat.{zero-add, mod-add-mod}
 use native.Mathlib.Omega.{arith}
 use Rattle.turn.specs.Phase.{turn, phase}
 use Rattle.turn.specs.Column.{product}
-
-unfoldable pub total : (ℕ → ℕ) → List ℕ → ℕ
-total f [] = 0
-total f (x ∷ xs) = f x + total f xs
+use Rattle.turn.specs.Cancel.{total, Steady}
 
 pub total-cong : {f g : ℕ → ℕ} → ((x : ℕ) → f x ≡ g x) → (xs : List ℕ) → total f xs ≡ total g xs
 unfolding total
@@ -33,10 +30,6 @@ total-product f [] ys = refl
 total-product f (x ∷ xs) ys =
     total-append f (map (λ y. x + y) ys) (product xs ys)
     ∙ ap₂ _+_ (total-map f (λ y. x + y) ys) (total-product f xs ys)
-
--- f depends on the phase of its argument alone
-abbrev pub Steady : (ℕ → ℕ) → Type 0
-Steady f = (x : ℕ) → f (phase x) ≡ f x
 
 pub steady-same : {f : ℕ → ℕ} → Steady f → (x y : ℕ) → phase x ≡ phase y → f x ≡ f y
 steady-same {f} s x y e = sym (s x) ∙ ap f e ∙ s y

@@ -11,9 +11,12 @@ use lib.Dec.{T, eqb, eqb→eq, lit<, T-not}
 use lib.IntN.{ℤ, pos, negℤ, _+ℤ_, _-ℤ_, +ℤ-invr, +ℤ-comm, negℤ-+ℤ, negℤ-negℤ}
 use Rattle.turn.specs.Phase.{turn, half, third, sixth, phase}
 use Rattle.turn.specs.Exact.{count, d, ExactZero}
-use Rattle.turn.proofs.Tests.{or-cases, or-else, eq→eqb, every, every-at}
-use Rattle.turn.proofs.Totals.{total, total-cong, total-map}
-use Rattle.turn.proofs.Invariant.{Invariant, invariant-add, invariant-same}
+use Rattle.ground.proofs.Tests.{or-cases, or-else, eq→eqb, every-at}
+use Rattle.ground.specs.Lists.{every}
+use Rattle.turn.specs.Cancel.{total}
+use Rattle.turn.proofs.Totals.{total-cong, total-map}
+use Rattle.turn.specs.Cancel.{Invariant}
+use Rattle.turn.proofs.Invariant.{invariant-add, invariant-same}
 
 -- ---- counts
 

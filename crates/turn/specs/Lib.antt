@@ -2,3 +2,5 @@
 pub mod Phase
 pub mod Column
 pub mod Exact
+pub mod Cancel
+pub mod Apart

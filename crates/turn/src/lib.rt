@@ -3,12 +3,25 @@ ghost use mathlib.Core.Path.{_≡_};
 ghost use Prim.Native.Nat.{_+_, _*_};
 ghost use Rattle.turn.specs.Phase.{half, quarter, eighth, phase};
 
+// A number of parts of a turn. Another resolution may need more bits, and nothing else here.
+pub type Part = u8;
+
 // The parts of a full turn.
-pub const TURN: u8 = 192;
+pub const TURN: Part = 192;
+
+// The phase of a number of parts.
+fn reduced(x: Part) -> Part
+    ensures { λ r. ⌜ r ≡ phase x ⌝ }
+{
+    if x < TURN {
+        return x;
+    }
+    x - TURN
+}
 
 // A phase. Functions that give one give it below a full turn; those that take one take any number of parts.
 pub struct Phase {
-    pub parts: u8,
+    pub parts: Part,
 }
 
 impl Phase {
@@ -24,15 +37,21 @@ impl Phase {
         ensures { λ r. ⌜ r .parts ≡ phase number ⌝ }
     {
         Phase {
-            parts: (number % (TURN as u32)) as u8,
+            parts: (number % (TURN as u32)) as Part,
         }
     }
 
-    // The sum of two phases.
+    // The sum of two phases, without a wider number and without a division: a loop of these is one of vectors.
     pub fn add(self, other: Phase) -> Phase
         ensures { λ r. ⌜ r .parts ≡ phase (self .parts + other .parts) ⌝ }
     {
-        Phase::of(self.parts as u32 + other.parts as u32)
+        let x = reduced(self.parts);
+        let y = reduced(other.parts);
+        let rest = TURN - y;
+        if x < rest {
+            return Phase { parts: x + y };
+        }
+        Phase { parts: x - rest }
     }
 
     // The phase half a turn on.

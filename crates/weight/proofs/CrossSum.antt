@@ -9,7 +9,7 @@ use lib.ListN.{length}
 use lib.IntN.{ℤ, pos, natAbs, _+ℤ_, _-ℤ_, _*ℤ_, *ℤ-zero, +ℤ-idr}
 use Rattle.turn.specs.Phase.{difference}
 use Rattle.turn.specs.Exact.{differences}
-use Rattle.turn.proofs.Cancel.{Cancels}
+use Rattle.turn.specs.Cancel.{Cancels}
 use Rattle.weight.specs.declared.Weight.{Weight}
 use Rattle.weight.specs.Table.{radius, weight}
 use Rattle.weight.specs.Products.{re, im, off, limit, cross}

@@ -7,7 +7,8 @@ use lib.IntN.{ℤ, pos}
 use lib.ListN.{length, getD, length-map}
 use Rattle.turn.specs.Phase.{turn}
 use Rattle.turn.specs.Column.{steps}
-use Rattle.turn.proofs.Lists.{map-at, length-steps}
+use Rattle.ground.proofs.Lists.{map-at}
+use Rattle.turn.proofs.Lists.{length-steps}
 use Rattle.turn.proofs.Entries.{steps-entry}
 use Rattle.weight.specs.declared.Weight.{Weight}
 use Rattle.weight.specs.Table.{firstQuarter, firstHalf, xs, ys, table, none, weight, sampled}

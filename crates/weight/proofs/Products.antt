@@ -11,7 +11,8 @@ use lib.IntN.{ℤ, pos, negℤ, natAbs, _+ℤ_, _-ℤ_, _*ℤ_, negℤ-negℤ, n
 use lib.ListN.{getD, drop}
 use lib.Seq.{getD-drop}
 use Rattle.turn.specs.Phase.{quarter, phase, difference}
-use Rattle.turn.proofs.Tests.{and-left, and-right, two-le, every, every-at}
+use Rattle.ground.proofs.Tests.{and-left, and-right, two-le, every-at}
+use Rattle.ground.specs.Lists.{every}
 use Rattle.turn.proofs.Differences.{difference-back}
 use Rattle.weight.specs.declared.Weight.{Weight}
 use Rattle.weight.specs.Table.{radius, firstQuarter, firstHalf, xs, ys, table, none, weight}

@@ -10,7 +10,8 @@ use lib.ListN.{getD}
 use lib.IntN.{ℤ, pos, negℤ, _+ℤ_}
 use lib.Signed.{ltZ, _<ℤ_, ltZ-yes}
 use Rattle.turn.specs.Phase.{turn, half, quarter, third, twelfth, phase}
-use Rattle.turn.proofs.Tests.{and-left, and-right, two-le, every, every-at}
+use Rattle.ground.proofs.Tests.{and-left, and-right, two-le, every-at}
+use Rattle.ground.specs.Lists.{every}
 use Rattle.weight.specs.declared.Weight.{Weight}
 use Rattle.weight.specs.Table.{firstQuarter, firstHalf, xs, ys, table, none, weight}
 use Rattle.weight.specs.Products.{turned, power, Within, fullPower, limit, powerBelow, powerAbove}

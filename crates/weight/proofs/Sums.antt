@@ -6,10 +6,13 @@ use native.Mathlib.Nat.{mod-mod}
 use native.Mathlib.Omega.{arith}
 use lib.IntN.{ℤ, pos, negℤ, _+ℤ_, _-ℤ_, +ℤ-invr}
 use Rattle.turn.specs.Phase.{turn, half, third, phase}
-use Rattle.turn.proofs.All.{All, none, more, all-each}
-use Rattle.turn.proofs.Totals.{total, total-cong}
-use Rattle.turn.proofs.Invariant.{Invariant, invariant-add}
-use Rattle.turn.proofs.Cancel.{Cancels, opposites, thirds}
+use Rattle.ground.specs.Lists.{All, all-nil, all-cons}
+use Rattle.ground.proofs.All.{all-each}
+use Rattle.turn.specs.Cancel.{total}
+use Rattle.turn.proofs.Totals.{total-cong}
+use Rattle.turn.specs.Cancel.{Invariant}
+use Rattle.turn.proofs.Invariant.{invariant-add}
+use Rattle.turn.specs.Cancel.{Cancels, opposites, thirds}
 use Rattle.weight.specs.declared.Weight.{Weight}
 use Rattle.weight.specs.Products.{turned}
 use Rattle.weight.proofs.Integers.{above, below, above-neg, parts, add-parts, zero-parts}
@@ -54,8 +57,8 @@ module _ (f : ℕ → ℤ) (steady : (e : ℕ) → f (phase e) ≡ f e) where
       → total (λ e. above (f e) + above (f (e + third)) + above (f (e + (third + third)))) es
       ≡ total (λ e. below (f e) + below (f (e + third)) + below (f (e + (third + third)))) es
   unfolding total
-  balanced-totals none = refl
-  balanced-totals (more {x = e} b a) =
+  balanced-totals all-nil = refl
+  balanced-totals (all-cons {x = e} b a) =
       ap₂ _+_ (zero-parts (f e) (f (e + third)) (f (e + (third + third))) (b .zero-sum)) (balanced-totals a)
 
   sum-thirds : {es : List ℕ} → Invariant third es → All (Balanced f) es → sum f es ≡ pos 0

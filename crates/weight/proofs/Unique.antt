@@ -1,7 +1,7 @@
 -- Each public function of the crate has one outcome on every input: any two that its contract admits are equal.
 -- Assumes nothing.
 use mathlib.Core.Path.{sym, _∙_}
-use Rattle.turn.proofs.Unique.{Unique}
+use Rattle.ground.specs.Unique.{Unique}
 use Rattle.weight.proofs.Weight.of.Reads as of
 use Rattle.weight.proofs.Weight.table.Reads as table
 use Rattle.weight.proofs.Weight.coarse.Reads as coarse

@@ -1,10 +1,11 @@
--- Tests that antt computes, and what a passed test says. Assumes nothing.
+-- Tests that antt computes, and what a passed test says.
 use mathlib.Core.Path.{_≡_, sym, subst}
 use mathlib.Core.Logic.{_⊎_, inl, inr}
 use mathlib.Core.Bool.{Bool, true, false, _&&_, _||_}
 use Prim.Native.Nat.{ℕ, zero, suc, _<_, _≤_}
 use native.Mathlib.Nat.{not-suc-le-zero, le-of-suc-le-suc, eq-or-lt-of-le}
 use lib.Dec.{T, eqb, eqb-refl, leb, leb→le}
+use Rattle.ground.specs.Lists.{every}
 
 pub and-left : (a b : Bool) → T (a && b) → T a
 and-left true b t = tt
@@ -22,17 +23,21 @@ pub or-else : (a b : Bool) → (T a → ⊥) → T (a || b) → T b
 or-else true b n t = absurd (n tt)
 or-else false b n t = t
 
+pub or-left : (a b : Bool) → T a → T (a || b)
+or-left true b t = tt
+or-left false b t = absurd t
+
+pub or-right : (a b : Bool) → T b → T (a || b)
+or-right true b t = tt
+or-right false b t = t
+
 pub two-le : (a b c d : ℕ) → T (leb a b && leb c d) → (a ≤ b) × (c ≤ d)
 two-le a b c d t = (leb→le a b (and-left (leb a b) (leb c d) t), leb→le c d (and-right (leb a b) (leb c d) t))
 
 pub eq→eqb : (m n : ℕ) → m ≡ n → T (eqb m n)
 eq→eqb m n e = subst (λ (k : ℕ). T (eqb m k)) e (eqb-refl m)
 
--- the test passes at every number below n
-unfoldable pub every : ℕ → (ℕ → Bool) → Bool
-every zero f = true
-every (suc n) f = f n && every n f
-
+-- what every number below n passes, each does
 pub every-at : (n : ℕ) (f : ℕ → Bool) → T (every n f) → (k : ℕ) → k < n → T (f k)
 unfolding every
 every-at zero f t k h = absurd (not-suc-le-zero h)

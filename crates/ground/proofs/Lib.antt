@@ -1,0 +1,8 @@
+-- Laws that know nothing of radio.
+pub mod Booleans
+pub mod Tests
+pub mod Lists
+pub mod All
+pub mod First
+pub mod Written
+pub mod Unique

@@ -1,0 +1,12 @@
+-- The public function has one outcome on every input.
+use mathlib.Core.Path.{_≡_, refl, sym, ap₂, _∙_}
+use mathlib.Core.Bool.{Bool}
+use mathlib.Core.List.{List}
+use denote.Ref.{now}
+use Rattle.ground.specs.Unique.{UniqueLeft}
+use Rattle.ground.proofs.copy.Reads as copy
+
+pub copy-unique : UniqueLeft copy.Learnt (λ k e. now (e .1 .1 .0))
+copy-unique k a r r′ e e′ p q =
+    let same = p .fits ∙ sym (q .fits) in
+    (same, p .stands ∙ rw same refl ∙ sym (q .stands))

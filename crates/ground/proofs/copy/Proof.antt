@@ -1,0 +1,85 @@
+-- `copy` meets its contract: each turn stores one byte more.
+use mathlib.Core.Path.{_≡_, refl, sym}
+use mathlib.Core.List.{_++_}
+use Prim.Native.Nat.{_-_, _≤_}
+use native.Mathlib.Omega.{arith}
+use lib.Dec.{leb}
+use lib.ListN.{length, take, drop, length-set}
+use lib.Seq.{length-take-le, getD-take}
+use borrow.Author.Tests.{le-leb, lt-leb}
+use Rattle.ground.proofs.Booleans.{and-nothing}
+use Rattle.ground.proofs.Written.{stored, stored-all}
+use Rattle.ground.proofs.copy.Statement.{statement}
+use Rattle.ground.proofs.copy.Tie as tie
+
+abbrev Inv-loop : tie.InvT-loop
+Inv-loop from n out₀ i₀ out i = (i ≤ n) × (out ≡ take i (take n from) ++ drop i out₀) × (length out ≡ length out₀)
+
+abbrev μ-loop : tie.MeasureT-loop
+μ-loop from n out₀ i₀ out i = n - i
+
+returns : tie.Need-returns Inv-loop μ-loop
+returns c = record { fits = rw (lt-leb _ _ (c .if1 .taken)); stands = refl }
+
+returns-2 : tie.Need-returns-2 Inv-loop μ-loop
+returns-2 c =
+    let a = c .before .before .args in
+    record { fits = rw (lt-leb _ _ (c .if2 .taken)) (sym (and-nothing (leb (a .n) (length (a .from .now))))); stands = refl }
+
+loop-holds : tie.Need-loop-holds Inv-loop μ-loop
+loop-holds c = (omega arith, refl, refl)
+
+shared-slice-read-out : tie.Need-shared-slice-read-out Inv-loop μ-loop
+shared-slice-read-out c = omega arith
+
+slice-write-out : tie.Need-slice-write-out Inv-loop μ-loop
+slice-write-out c = omega arith
+
+add-i : tie.Need-add-i Inv-loop μ-loop
+add-i c = omega arith
+
+loop-less : tie.Need-loop-less Inv-loop μ-loop
+loop-less c = omega arith
+
+loop-again : tie.Need-loop-again Inv-loop μ-loop
+loop-again c =
+    let l = c .before .before .loop in
+    let few = c .before .before .before in
+    let a = few .before .before .args in
+    let long = length-take-le (a .n) (a .from .now) (few .before .if1 .left) in
+    let entry = sym (getD-take (a .n) (a .from .now) (l .i) 0 (c .before .loop-test .taken)) in (
+      omega arith,
+      stored _ _ (a .n) (l .i) 0 (l .inv .1) entry long (c .before .loop-test .taken) (few .if2 .left),
+      simp length-set (l .inv .2),
+    )
+
+same-length : tie.Need-same-length Inv-loop μ-loop
+same-length c = c .before .loop .inv .2
+
+returns-3 : tie.Need-returns-3 Inv-loop μ-loop
+returns-3 c =
+    let l = c .before .loop in
+    let few = c .before .before in
+    let a = few .before .before .args in
+    let long = length-take-le (a .n) (a .from .now) (few .before .if1 .left) in
+    record {
+      fits = rw (le-leb _ _ (few .before .if1 .left), le-leb _ _ (few .if2 .left));
+      stands = stored-all _ _ (a .n) (l .i) (l .inv .1) long (omega arith);
+    }
+
+pub copy-spec : {M : Type 1} → statement M
+copy-spec =
+    tie.close
+    (tie.spec
+    Inv-loop
+    μ-loop
+    returns
+    returns-2
+    loop-holds
+    shared-slice-read-out
+    slice-write-out
+    add-i
+    loop-less
+    loop-again
+    same-length
+    returns-3)

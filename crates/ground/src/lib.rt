@@ -1,0 +1,20 @@
+// What knows nothing of radio: filling a lent buffer.
+ghost use Rattle.ground.specs.Copied.{Copied};
+
+// Copies the first n bytes to the front of `out` and says so, where both have so many. Otherwise `out` stays as lent.
+pub fn copy(from: &[u8], n: usize, out: &mut [u8]) -> bool
+    ensures { λ t. ⌜ Copied (now (from .entry)) n (now (out .entry)) t (now (out .exit)) ⌝ }
+{
+    if from.len() < n {
+        return false;
+    }
+    if out.len() < n {
+        return false;
+    }
+    let mut i = 0;
+    while i < n {
+        out[i] = from[i];
+        i += 1;
+    }
+    true
+}
