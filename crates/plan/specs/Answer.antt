@@ -1,0 +1,128 @@
+-- What a codebook is, how its reports are refused, and what a call answers: the record, and what the lent buffer then holds.
+use mathlib.Core.Path.{_≡_}
+use mathlib.Core.Bool.{Bool, not, _||_}
+use mathlib.Core.List.{List, [], _∷_, _++_, map}
+use Prim.Native.Nat.{ℕ, zero, suc, _*_, _/_}
+use lib.Dec.{eqb, ltb}
+use lib.IntN.{ℤ}
+use lib.ListN.{length, drop, replicate}
+use Rattle.ground.specs.Cases.{_⇒_∣_}
+use Rattle.ground.specs.First.{first}
+use Rattle.weight.specs.Table.{weight, numbers}
+use Rattle.plan.specs.declared.Record.{Record}
+use Rattle.plan.specs.declared.Drawing.{Drawing}
+use Rattle.plan.specs.declared.Judged.{Judged}
+use Rattle.plan.specs.Plan.{Plan, matrix}
+use Rattle.plan.specs.Masks.{barred, rankBarred}
+
+-- what is asked: a report, the masks, and for how many entries the lent buffer has room
+pub record Asked (R : Type 0) : Type 0 where
+  pub report : R
+  pub mask : List ℕ
+  pub ranks : ℕ
+  pub room : ℕ
+
+abbrev pub asked : {R : Type 0} → R → List ℕ → ℕ → ℕ → Asked R
+asked r mask ranks room = record { report = r; mask = mask; ranks = ranks; room = room }
+
+-- A codebook over reports R: the tests that need the report alone, by number; the order in which all are tried; the bytes of
+-- the beam mask, the bits of it that a report reads, whether these are bits of beams and then how many there are for each
+-- l; and the plan of a report.
+pub record Codebook (R : Type 0) : Type 0 where
+  pub rule : R → ℕ → Bool
+  pub order : List ℕ
+  pub maskBytes : R → ℕ
+  pub bitsRead : R → List ℕ
+  pub beamed : R → Bool
+  pub width : R → ℕ
+  pub plan : R → Plan
+
+-- the numbers whose tests every codebook shares; the others are its own
+abbrev pub shared : ℕ → Bool
+shared k = eqb k 3 || eqb k 5 || eqb k 10 || eqb k 11
+
+abbrev pub own : ℕ → Bool
+own k = not (shared k)
+
+-- the refused record: the number, and zeros
+abbrev pub refused : ℕ → Record
+refused k = record { refusal = k; ports = 0; layers = 0; scale = 0 }
+
+-- the accepted record of a plan: P, v and the scale v·P
+abbrev pub planned : Plan → Record
+planned p = record { refusal = 0; ports = p .ports; layers = p .v; scale = p .v * p .ports }
+
+-- by the number of the refusal: the accepted record, or the refused one
+abbrev pub recordOf : Record → ℕ → Record
+recordOf accepted zero = accepted
+recordOf accepted (suc k) = refused (suc k)
+
+-- the buffer, by the number of the refusal: the answer and then what was lent, and otherwise all of it as lent
+abbrev pub bufferOf : {A : Type 0} → ℕ → List A → List A → List A
+bufferOf zero answer lent = answer ++ drop (length answer) lent
+bufferOf (suc k) answer lent = lent
+
+-- a call that is refused by a number, or accepted where that is 0: the record that is given, and what is left in the buffer
+pub record Answers {A : Type 0} (number : ℕ) (accepted : Record) (answer lent : List A) (given : Record) (left : List A)
+    : Type 0 where
+  pub record-is : given ≡ recordOf accepted number
+  pub buffer-is : left ≡ bufferOf number answer lent
+
+module _ {R : Type 0} (b : Codebook R) where
+  -- the tests that do not need the beams: 3 the bytes of the mask, 5 the rank mask, and the codebook's own
+  unfoldable pub early : R → ℕ → ℕ → ℕ → Bool
+  early r bytes ranks k =
+      eqb k 3 ⇒ not (eqb bytes (b .maskBytes r))
+      ∣ eqb k 5 ⇒ rankBarred ranks (b .plan r .v)
+      ∣ b .rule r k
+
+  -- the test of each number: 10 a barred beam, 11 the room
+  unfoldable pub test : Asked R → ℕ → Bool
+  test q k =
+      eqb k 10 ⇒ barred (q .mask) (b .bitsRead (q .report))
+      ∣ eqb k 11 ⇒ ltb (q .room) (b .plan (q .report) .v * b .plan (q .report) .ports)
+      ∣ early (q .report) (length (q .mask)) (q .ranks) k
+
+  -- the refusal: the first in the order that applies
+  unfoldable pub refusal : Asked R → ℕ
+  refusal q = first (test q) (b .order)
+
+  -- a call with room for so many entries, by the answer that the buffer is to hold
+  abbrev pub Called : {A : Type 0} → R → List ℕ → ℕ → ℕ → List A → List A → Record → List A → Type 0
+  Called r mask ranks room answer lent given left =
+      Answers (refusal (asked r mask ranks room)) (planned (b .plan r)) answer lent given left
+
+  -- a call of `phases`: an entry is a number of parts of a turn
+  abbrev pub Phases : R → List ℕ → ℕ → List ℕ → Record → List ℕ → Type 0
+  Phases r mask ranks lent given left = Called r mask ranks (length lent) (matrix (b .plan r)) lent given left
+
+  -- the weights of a report's matrix, as they are stored
+  unfoldable pub weightsOf : R → List ℤ
+  weightsOf r = numbers (map weight (matrix (b .plan r)))
+
+  -- a call of `weights`: an entry is two numbers, so that 11 is given where there are fewer than 2·v·P
+  abbrev pub Weights : R → List ℕ → ℕ → List ℤ → Record → List ℤ → Type 0
+  Weights r mask ranks lent given left = Called r mask ranks (length lent / 2) (weightsOf r) lent given left
+
+-- nothing to write
+abbrev pub blank : Drawing
+blank = record {
+  v = 0;
+  blocks = 0;
+  rows = 0;
+  columns = 0;
+  across = 0;
+  down = 0;
+  l = 0 ∷ 0 ∷ 0 ∷ 0 ∷ [];
+  m = 0 ∷ 0 ∷ 0 ∷ 0 ∷ [];
+  co = 0 ∷ 0 ∷ 0 ∷ 0 ∷ 0 ∷ 0 ∷ 0 ∷ 0 ∷ [];
+  codes = 0 ∷ 0 ∷ 0 ∷ 0 ∷ 0 ∷ 0 ∷ 0 ∷ 0 ∷ [];
+}
+
+-- a report once it has been judged, by the number of its refusal
+abbrev pub refusedBy : ℕ → Judged
+refusedBy k = record { given = refused k; drawing = blank }
+
+abbrev pub judged : Record → Drawing → ℕ → Judged
+judged accepted s zero = record { given = accepted; drawing = s }
+judged accepted s (suc k) = refusedBy (suc k)

@@ -1,0 +1,63 @@
+// What a precoder is made of, for any codebook, and what a call answers.
+ghost use mathlib.Core.Path.{_≡_};
+ghost use Rattle.plan.specs.Answer.{refusedBy};
+
+use turn::Part;
+
+// What a call answers: the number of the refusal and zeros, or 0, the ports P, the layers v and the scale v·P. A true
+// precoder is the entries divided by the square root of the scale.
+#[repr(C)]
+pub struct Record {
+    pub refusal: u32,
+    pub ports: u32,
+    pub layers: u32,
+    pub scale: u32,
+}
+
+// What the writer is handed of a plan: v layers; a column of so many blocks, each of rows by columns; the phases for one
+// step of l and of m; l and m of up to four beams, reduced; and up to eight co-phases. The code of a layer is 512 times the
+// place of its beam, 256 more where it takes the co-phases, and 2^q more where half a turn is added to block q.
+pub struct Drawing {
+    pub v: usize,
+    pub blocks: usize,
+    pub rows: usize,
+    pub columns: usize,
+    pub across: Part,
+    pub down: Part,
+    pub l: [u8; 4],
+    pub m: [u8; 4],
+    pub co: [Part; 8],
+    pub codes: [u16; 8],
+}
+
+// A report that has been judged: its record, and what is to be written where it is accepted.
+pub struct Judged {
+    pub given: Record,
+    pub drawing: Drawing,
+}
+
+// A report that is refused by a number.
+pub fn refuse(number: u32) -> Judged
+    ensures { λ c. ⌜ c ≡ refusedBy number ⌝ }
+{
+    Judged {
+        given: Record {
+            refusal: number,
+            ports: 0,
+            layers: 0,
+            scale: 0,
+        },
+        drawing: Drawing {
+            v: 0,
+            blocks: 0,
+            rows: 0,
+            columns: 0,
+            across: 0,
+            down: 0,
+            l: [0; 4],
+            m: [0; 4],
+            co: [0; 8],
+            codes: [0; 8],
+        },
+    }
+}
