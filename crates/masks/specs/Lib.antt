@@ -1,0 +1,2 @@
+-- What the contract of `admit` cites.
+pub mod Admitted

@@ -1,0 +1,3 @@
+-- 01's settings and ranges, in its order.
+pub mod Settings
+pub mod Ranges
