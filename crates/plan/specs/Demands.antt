@@ -37,98 +37,78 @@ module _ {R : Type 0} (b : Codebook R) (InRange : R → Type 0) (order : List �
     pub every-input-answered : {A : Type 0} (room : ℕ) (answer lent : List A)
         → let number = refusal b (asked r mask ranks room) in
         Called b r mask ranks room answer lent (recordOf (planned (b .plan r)) number) (bufferOf number answer lent)
-
     -- 1a. It has only one: two outcomes have the same record and the same buffer.
     pub answered-once : {A : Type 0} (room : ℕ) {answer lent left left′ : List A} {given given′ : Record}
         → Called b r mask ranks room answer lent given left → Called b r mask ranks room answer lent given′ left′
         → (given ≡ given′) × (left ≡ left′)
-
     -- 1b. The refusals are tested in this order.
     pub refusals-in-order : b .order ≡ order
-
     -- 1b. The number given is that of the first fault in the order: its test holds, and none before it does.
     pub first-fault-given : {A : Type 0} (room : ℕ) {answer lent left : List A} {given : Record}
         → Called b r mask ranks room answer lent given left → given .refusal ≢ 0
         → FirstOf (test b (asked r mask ranks room)) order (given .refusal)
-
     -- 1c. A refusal leaves every entry of the buffer as lent, and gives zeros beside its number.
     pub refused-as-lent : {A : Type 0} (room : ℕ) {answer lent left : List A} {given : Record}
         → Called b r mask ranks room answer lent given left → given .refusal ≢ 0
         → (left ≡ lent) × (given ≡ refused (given .refusal))
-
     -- 1d. The numbers of an accepted report are all in range as they were reported: nothing is pulled into range.
     pub accepted-in-range : {A : Type 0} (room : ℕ) {answer lent left : List A} {given : Record}
         → Called b r mask ranks room answer lent given left → given .refusal ≡ 0 → InRange r
-
     -- 2a. An accepted report leaves its matrix, v·P phases, and after it what was lent. Its record holds 0, P, v and v·P.
     pub accepted-as-matrix : {lent left : List ℕ} {given : Record} → Phases b r mask ranks lent given left
         → given .refusal ≡ 0
         → (left ≡ W ++ drop (v * P) lent) × (length W ≡ v * P) × (given ≡ planned (b .plan r))
-
     -- 2b. A report is accepted exactly when no refusal applies: no rule, no mask, and no lack of room.
     pub accepted-exactly : {A : Type 0} (room : ℕ) {answer lent left : List A} {given : Record}
         → Called b r mask ranks room answer lent given left
         → given .refusal ≡ 0 ↔ None (test b (asked r mask ranks room)) order
-
     -- 2c. Every bit of the beam mask that an accepted report reads is one.
     pub bits-read-are-one : {A : Type 0} (room : ℕ) {answer lent left : List A} {given : Record}
         → Called b r mask ranks room answer lent given left → given .refusal ≡ 0
         → map (bit mask) (b .bitsRead r) ≡ replicate (length (b .bitsRead r)) 1
-
     -- 2c. Where the mask has a bit for each beam, that of each layer's beam is one: no accepted report has a barred beam.
     pub layers-not-barred : {A : Type 0} (room : ℕ) {answer lent left : List A} {given : Record}
         → Called b r mask ranks room answer lent given left → given .refusal ≡ 0 → b .beamed r ≡ true
         → map (λ x. bit mask (b .width r * x .l + x .m)) (b .plan r .layers) ≡ replicate v 1
-
     -- 2d. An accepted report leaves its weights, 2·v·P numbers, and after them what was lent.
     pub accepted-as-weights : {lent left : List ℤ} {given : Record} → Weights b r mask ranks lent given left
         → given .refusal ≡ 0
         → (left ≡ weightsOf b r ++ drop (2 * (v * P)) lent) × (length (weightsOf b r) ≡ 2 * (v * P))
         × (given ≡ planned (b .plan r))
-
     -- 2d. Weight i in the buffer is the table's pair at phase i of the matrix, x and then y.
     pub weights-of-phases : {lent left : List ℤ} {given : Record} → Weights b r mask ranks lent given left
         → given .refusal ≡ 0 → (i : ℕ) → i < v * P → getD (pairs left) i none ≡ weight (getD W i 0)
-
     -- 3a. Any two different layers of an accepted report's matrix are exactly orthogonal, by the rule of counts.
     pub layers-orthogonal : {A : Type 0} (room : ℕ) {answer lent left : List A} {given : Record}
         → Called b r mask ranks room answer lent given left → given .refusal ≡ 0
         → (j k : ℕ) → j < v → k < v → j ≢ k → Orthogonal (layer P j W) (layer P k W)
-
     -- 3a. And so are any two different layers that stand in the buffer of `phases`.
     pub buffer-orthogonal : {lent left : List ℕ} {given : Record} → Phases b r mask ranks lent given left
         → given .refusal ≡ 0
         → (j k : ℕ) → j < v → k < v → j ≢ k → Orthogonal (layer P j left) (layer P k left)
-
     -- 3b. Of any two different layers, the real and the imaginary part of the weights' cross-sum are each at most
     -- 32,768·P from zero.
     pub cross-sums-small : {lent left : List ℤ} {given : Record} → Weights b r mask ranks lent given left
         → given .refusal ≡ 0 → (j k : ℕ) → j < v → k < v → j ≢ k
         → let one = layer P j (pairs left) in let other = layer P k (pairs left) in
         (natAbs (cross re one other) ≤ 32768 * P) × (natAbs (cross im one other) ≤ 32768 * P)
-
     -- 3c. The power of each weight is at most 32,768 from 268,435,456.
     pub powers-near : {lent left : List ℤ} {given : Record} → Weights b r mask ranks lent given left
         → given .refusal ≡ 0
         → (i : ℕ) → i < v * P → Within 268435456 32768 32768 (power (getD (pairs left) i none))
-
     -- Beyond 3c: it is at most 17,304 below and 15,121 above.
     pub powers-within : {lent left : List ℤ} {given : Record} → Weights b r mask ranks lent given left
         → given .refusal ≡ 0
         → (i : ℕ) → i < v * P → Within 268435456 17304 15121 (power (getD (pairs left) i none))
-
     -- Beyond: the power of a port, summed over its v layers, is within v times these limits of v times 268,435,456.
     pub port-power : {lent left : List ℤ} {given : Record} → Weights b r mask ranks lent given left
         → given .refusal ≡ 0
         → (q : ℕ) → q < P → Within (v * 268435456) (v * 17304) (v * 15121) (portPower v P q (pairs left))
-
     -- Beyond: the powers of any two ports differ by at most 32,425 for each layer.
     pub ports-differ : {lent left : List ℤ} {given : Record} → Weights b r mask ranks lent given left
         → given .refusal ≡ 0 → (q q′ : ℕ) → q < P → q′ < P
         → portPower v P q (pairs left) ≤ portPower v P q′ (pairs left) + v * 32425
-
     -- Beyond: both limits of a weight's power occur in the table, so neither can be lowered.
     pub power-limits-occur : (power (weight 14) + 17304 ≡ 268435456) × (power (weight 9) ≡ 268435456 + 15121)
-
     -- Beyond: a buffer is too short for n weights, as 11 has it, exactly when it has fewer than 2·n numbers.
     pub room-for-weights : (lent : List ℤ) (n : ℕ) → (length lent / 2 < n) ↔ (length lent < 2 * n)

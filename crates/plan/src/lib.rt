@@ -1,7 +1,6 @@
 // What a precoder is made of, for any codebook, and what a call answers.
 ghost use mathlib.Core.Path.{_≡_};
 ghost use Rattle.plan.specs.Answer.{refusedBy};
-
 use turn::Part;
 
 // What a call answers: the number of the refusal and zeros, or 0, the ports P, the layers v and the scale v·P. A true

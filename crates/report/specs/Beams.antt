@@ -1,13 +1,14 @@
 -- The beams of a report: B, and how far B', B'' and B''' stand from it.
 use mathlib.Core.Bool.{Bool, _||_}
 use mathlib.Core.List.{List, [], _∷_, map}
-use Prim.Native.Nat.{ℕ, zero, suc, _+_, _*_, _/_, _%_}
+use Prim.Native.Nat.{ℕ, zero, suc, _+_, _*_, _/_, _%_, _≤_}
 use lib.Dec.{eqb, leb, ltb}
 use lib.ListN.{length, getD}
 use Rattle.ground.specs.Cases.{_⇒_∣_}
 use Rattle.ground.specs.First.{first}
 use Rattle.settings.specs.declared.Beam.{Beam}
-use Rattle.settings.specs.Settings.{isSetting, ports, o1, o2, across, down, maskBytes, sizesOf}
+use Rattle.settings.specs.declared.Sizes.{Sizes}
+use Rattle.settings.specs.Settings.{ports, o1, o2, across, down, sizesOf}
 use Rattle.settings.specs.Ranges.{beam, modeTwo, halfLength, kRows}
 use Rattle.report.specs.declared.Report.{Report}
 use Rattle.report.specs.declared.Beams.{Beams}
@@ -66,28 +67,40 @@ abbrev pub four : (Beam → ℕ) → List Beam → List ℕ
 four f xs =
     f (getD xs 0 (beam 0 0)) ∷ f (getD xs 1 (beam 0 0)) ∷ f (getD xs 2 (beam 0 0)) ∷ f (getD xs 3 (beam 0 0)) ∷ []
 
--- what the report's own numbers say, by the number of its refusal
-abbrev pub said : Report → ℕ → Beams
-said r zero = record {
-  refusal = 0;
-  ports = ports (r .n1) (r .n2);
-  down = down (r .n2);
-  bytes = maskBytes (r .n1) (r .n2);
-  count = length (beams r);
-  l = four (λ x. x .l) (beams r);
-  m = four (λ x. x .m) (beams r);
-  n = n r;
-}
-said r (suc k) = record {
-  refusal = suc k;
-  ports = sizesOf (r .n1) (r .n2) .ports;
-  down = sizesOf (r .n1) (r .n2) .down;
-  bytes = sizesOf (r .n1) (r .n2) .bytes;
+-- what is said of a refused report, and of one whose beams are given
+abbrev pub refusedWith : ℕ → Sizes → Beams
+refusedWith k s = record {
+  refusal = k;
+  ports = s .ports;
+  down = s .down;
+  bytes = s .bytes;
   count = 0;
-  l = four (λ x. x .l) [];
-  m = four (λ x. x .m) [];
+  l = 0 ∷ 0 ∷ 0 ∷ 0 ∷ [];
+  m = 0 ∷ 0 ∷ 0 ∷ 0 ∷ [];
   n = 0;
 }
+
+abbrev pub saidOf : Report → Sizes → ℕ → List Beam → Beams
+saidOf r s count xs = record {
+  refusal = 0;
+  ports = s .ports;
+  down = s .down;
+  bytes = s .bytes;
+  count = count;
+  l = four (λ x. x .l) xs;
+  m = four (λ x. x .m) xs;
+  n = n r;
+}
+
+-- numbers far from the limits of the code's arithmetic
+pub record Small (x : Beam) : Type 0 where
+  pub l : x .l ≤ 255
+  pub m : x .m ≤ 255
+
+-- what the report's own numbers say, by the number of its refusal
+abbrev pub said : Report → ℕ → Beams
+said r zero = saidOf r (sizesOf (r .n1) (r .n2)) (length (beams r)) (beams r)
+said r (suc k) = refusedWith (suc k) (sizesOf (r .n1) (r .n2))
 
 unfoldable pub beamsOf : Report → Beams
 beamsOf r = said r (first (rule r) ownOrder)

@@ -1,4 +1,10 @@
 // A report by its own numbers: the first refusal that needs nothing else, or its beams.
+use settings::Ranges;
+ghost use mathlib.Core.Path.{_≡_};
+ghost use Rattle.report.specs.Beams.{beamsOf};
+
+mod beams;
+mod rules;
 
 // A report: the setting (N1,N2), the codebook mode, the rank v, and the indices.
 #[repr(C)]
@@ -24,4 +30,17 @@ pub struct Beams {
     pub l: [u32; 4],
     pub m: [u32; 4],
     pub n: u32,
+}
+
+// Judges a report by its own numbers, and gives its beams where they are in range. (2,1) with mode 1, two layers, i11 = 7,
+// i13 = 1 and the rest 0 has the beams (7,0) and (3,0).
+pub fn beams_of(r: Report) -> Beams
+    ensures { λ b. ⌜ b ≡ beamsOf r ⌝ }
+{
+    let w = settings::ranges_of(r.n1, r.n2, r.mode, r.v);
+    let k = rules::refusal(r, w);
+    if k != 0 {
+        return rules::refused(k, w.sizes);
+    }
+    beams::choose(r, w.sizes)
 }

@@ -7,7 +7,7 @@ use lib.ListN.{length}
 use Rattle.ground.specs.Cases.{_⇒_∣_}
 use Rattle.settings.specs.declared.Beam.{Beam}
 use Rattle.settings.specs.declared.Ranges.{Ranges}
-use Rattle.settings.specs.Settings.{isSetting, ports, twoPorts, across, down}
+use Rattle.settings.specs.Settings.{isSetting, ports, twoPorts, across, down, sizesOf}
 
 abbrev pub beam : ℕ → ℕ → Beam
 beam l m = record { l = l; m = m }
@@ -74,14 +74,15 @@ i13Values n1 n2 v = halfLength (ports n1 n2) v ⇒ 4 ∣ length (kRows n1 n2 v)
 unfoldable pub i2Values : ℕ → ℕ → ℕ → ℕ
 i2Values n1 mode v = modeTwo n1 mode v ⇒ (eqb v 1 ⇒ 16 ∣ 8) ∣ eqb v 1 ⇒ 4 ∣ 2
 
--- all four, and zeros where the setting, the mode or the rank is none
+-- What follows from the setting, and how many values each index has. Zeros where the setting, the mode or the rank is none.
+abbrev pub isRanked : ℕ → ℕ → ℕ → ℕ → Bool
+isRanked n1 n2 mode v = isSetting n1 n2 && isMode mode && isRank (ports n1 n2) v
+
 abbrev pub rangesOf : ℕ → ℕ → ℕ → ℕ → Ranges
-rangesOf n1 n2 mode v =
-    isSetting n1 n2 && isMode mode && isRank (ports n1 n2) v
-    ⇒ record {
-      i11 = i11Values n1 n2 mode v;
-      i12 = i12Values n1 n2 mode v;
-      i13 = i13Values n1 n2 v;
-      i2 = i2Values n1 mode v;
-    }
-    ∣ record { i11 = 0; i12 = 0; i13 = 0; i2 = 0 }
+rangesOf n1 n2 mode v = record {
+  sizes = sizesOf n1 n2;
+  i11 = isRanked n1 n2 mode v ⇒ i11Values n1 n2 mode v ∣ 0;
+  i12 = isRanked n1 n2 mode v ⇒ i12Values n1 n2 mode v ∣ 0;
+  i13 = isRanked n1 n2 mode v ⇒ i13Values n1 n2 v ∣ 0;
+  i2 = isRanked n1 n2 mode v ⇒ i2Values n1 mode v ∣ 0;
+}

@@ -1,4 +1,18 @@
 // The settings (N1,N2) of the single-panel codebook, and how many values each index has.
+ghost use mathlib.Core.Path.{_≡_};
+ghost use mathlib.Core.Bool.{true, false, cond};
+ghost use Prim.Native.Nat.{_*_, _/_, _<_, _≤_};
+ghost use lib.Dec.{eqb};
+ghost use lib.ListN.{length};
+ghost use Rattle.ground.specs.Cases.{_⇒_∣_};
+ghost use Rattle.settings.specs.Settings.{isSetting, ports, across, down, maskBytes, sizesOf};
+ghost use Rattle.settings.specs.Ranges.{isMode, isRank, modeTwo, halfLength, kTwo, kThree};
+ghost use Rattle.settings.specs.Ranges.{halvesI11, halvesI12, i13Values, i2Values, rangesOf};
+
+mod values;
+
+pub use values::is_half_length;
+pub use values::is_mode_two;
 
 // The beam (l,m), or a step from one beam to another.
 pub struct Beam {
@@ -14,10 +28,130 @@ pub struct Sizes {
     pub bytes: u32,
 }
 
-// How many values each index has. Zeros where the setting, the mode or the rank is none.
+// What follows from the setting, and how many values each index has: 0 to one less is in range. The values are 0 where the
+// setting, the mode or the rank is none.
 pub struct Ranges {
+    pub sizes: Sizes,
     pub i11: u32,
     pub i12: u32,
     pub i13: u32,
     pub i2: u32,
+}
+
+// Bit N1 of entry N2 is one where (N1,N2) is a setting.
+const SETTINGS: [u32; 5] = [
+    0,
+    0b1_0001_0001_0101_0110, // N2 = 1: N1 = 1, 2, 4, 6, 8, 12, 16
+    0b1_0101_1100, // N2 = 2: 2, 3, 4, 6, 8
+    0b1_0000, // N2 = 3: 4
+    0b1_0000, // N2 = 4: 4
+];
+
+// Tests the pair itself: many pairs that are not settings have the ports of one.
+fn is_setting(n1: u32, n2: u32) -> bool
+    ensures { λ t. ⌜ t ≡ isSetting n1 n2 ⌝ }
+{
+    if 16 < n1 {
+        return false;
+    }
+    if 4 < n2 {
+        return false;
+    }
+    let row = SETTINGS[n2 as usize];
+    (row >> n1) % 2 == 1
+}
+
+// The beams in a direction of n antennas: both directions count them alike.
+fn beams_along(n: u32) -> u32
+    requires { ⌜ (1 ≤ n) × (n ≤ 16) ⌝ }
+    ensures { λ w. ⌜ (w ≡ across n) × (w ≡ down n) ⌝ }
+{
+    if n == 1 {
+        return 1;
+    }
+    4 * n
+}
+
+// The bytes of the beam mask, for so many ports and beams.
+fn bytes_of(p: u32, beams: u32) -> u32
+    ensures { λ n. ⌜ n ≡ cond (eqb p 2) 1 (beams / 8) ⌝ }
+{
+    if p == 2 {
+        return 1;
+    }
+    beams / 8
+}
+
+// What follows from a setting, and zeros for a pair that is none.
+fn sizes_of(n1: u32, n2: u32) -> Sizes
+    ensures { λ s. ⌜ s ≡ sizesOf n1 n2 ⌝ }
+{
+    if !is_setting(n1, n2) {
+        return Sizes {
+            ports: 0,
+            across: 0,
+            down: 0,
+            bytes: 0,
+        };
+    }
+    let across = beams_along(n1);
+    let down = beams_along(n2);
+    let ports = 2 * (n1 * n2);
+    let bytes = bytes_of(ports, across * down);
+    Sizes {
+        ports: ports,
+        across: across,
+        down: down,
+        bytes: bytes,
+    }
+}
+
+// How many bytes the beam mask of a setting has, 1 to 32; 0 for a pair that is no setting.
+pub fn mask_bytes(n1: u32, n2: u32) -> u32
+    ensures { λ n. ⌜ n ≡ (isSetting n1 n2 ⇒ maskBytes n1 n2 ∣ 0) ⌝ }
+{
+    let s = sizes_of(n1, n2);
+    s.bytes
+}
+
+// No values at all.
+fn no_values(s: Sizes) -> Ranges
+    ensures { λ a. ⌜ a ≡ record { sizes = s; i11 = 0; i12 = 0; i13 = 0; i2 = 0 } ⌝ }
+{
+    Ranges {
+        sizes: s,
+        i11: 0,
+        i12: 0,
+        i13: 0,
+        i2: 0,
+    }
+}
+
+// What follows from a setting, and how many values each index has: 0 to one less is in range. The values are 0 where the
+// setting, the mode or the rank is none. (2,1) with mode 1 and two layers has 8, 1, 2 and 2.
+pub fn ranges_of(n1: u32, n2: u32, mode: u32, v: u32) -> Ranges
+    ensures { λ a. ⌜ a ≡ rangesOf n1 n2 mode v ⌝ }
+{
+    let s = sizes_of(n1, n2);
+    let p = s.ports;
+    if p == 0 {
+        return no_values(s);
+    }
+    if !values::is_mode(mode) {
+        return no_values(s);
+    }
+    if !values::is_rank(p, v) {
+        return no_values(s);
+    }
+    let i11 = values::halved(values::halves_i11(n1, n2, mode, v, p), s.across);
+    let i12 = values::halved(values::halves_i12(n1, n2, mode, v), s.down);
+    let i13 = values::of_i13(n1, n2, v, p);
+    let i2 = values::of_i2(n1, mode, v);
+    Ranges {
+        sizes: s,
+        i11: i11,
+        i12: i12,
+        i13: i13,
+        i2: i2,
+    }
 }

@@ -1,0 +1,221 @@
+// The beams B, B', B'' and B''' of a report.
+use crate::Beams;
+use crate::Report;
+use settings::Beam;
+use settings::Sizes;
+ghost use mathlib.Core.Path.{_≡_};
+ghost use mathlib.Core.Bool.{true, false, cond};
+ghost use mathlib.Core.List.{[], _∷_};
+ghost use Prim.Native.Nat.{_+_, _*_, _%_, _<_, _≤_};
+ghost use lib.Dec.{ltb};
+ghost use lib.ListN.{length, getD};
+ghost use Rattle.settings.specs.Settings.{isSetting, sizesOf};
+ghost use Rattle.settings.specs.Ranges.{beam, kTwo, kThree, kRows};
+ghost use Rattle.report.specs.Rules.{InRange};
+ghost use Rattle.report.specs.Beams.{inModeTwo, isHalf, g, n, base, moved, beams, saidOf, Small};
+
+// No step, and no beam.
+const NONE: Beam = Beam { l: 0, m: 0 };
+
+// The rows of k for two layers, in steps of (O1,O2): for N1 > N2 > 1, for N1 = N2, and for N2 = 1.
+const K_WIDE: [Beam; 4] = [
+    Beam { l: 0, m: 0 },
+    Beam { l: 1, m: 0 },
+    Beam { l: 0, m: 1 },
+    Beam { l: 2, m: 0 },
+];
+
+const K_SQUARE: [Beam; 4] = [
+    Beam { l: 0, m: 0 },
+    Beam { l: 1, m: 0 },
+    Beam { l: 0, m: 1 },
+    Beam { l: 1, m: 1 },
+];
+
+const K_LINE: [Beam; 4] = [
+    Beam { l: 0, m: 0 },
+    Beam { l: 1, m: 0 },
+    Beam { l: 2, m: 0 },
+    Beam { l: 3, m: 0 },
+];
+
+// Those for three and four layers: for N2 > 1, and for N2 = 1. Smaller settings have the first of them.
+const K_THREE: [Beam; 4] = [
+    Beam { l: 1, m: 0 },
+    Beam { l: 0, m: 1 },
+    Beam { l: 1, m: 1 },
+    Beam { l: 2, m: 0 },
+];
+
+const K_THREE_LINE: [Beam; 4] = [
+    Beam { l: 1, m: 0 },
+    Beam { l: 2, m: 0 },
+    Beam { l: 3, m: 0 },
+    Beam { l: 4, m: 0 },
+];
+
+// The row for i13 at v = 2.
+fn k_two(n1: u32, n2: u32, i13: u32) -> Beam
+    requires { ⌜ (isSetting n1 n2 ≡ true) × (n1 ≡ 1 → ⊥) × (i13 < length (kTwo n1 n2)) ⌝ }
+    ensures { λ k. ⌜ k ≡ getD (kTwo n1 n2) i13 (beam 0 0) ⌝ }
+{
+    let i = i13 as usize;
+    if n2 == 1 {
+        return K_LINE[i];
+    }
+    if n1 == n2 {
+        return K_SQUARE[i];
+    }
+    K_WIDE[i]
+}
+
+// The row for i13 at v = 3 and 4.
+fn k_three(n1: u32, n2: u32, i13: u32) -> Beam
+    requires { ⌜ i13 < length (kThree n1 n2) ⌝ }
+    ensures { λ k. ⌜ k ≡ getD (kThree n1 n2) i13 (beam 0 0) ⌝ }
+{
+    let i = i13 as usize;
+    if n2 == 1 {
+        return K_THREE_LINE[i];
+    }
+    K_THREE[i]
+}
+
+// The row for i13 at v = 2 to 4, above two ports and without half-length beams.
+fn k_row(r: Report) -> Beam
+    requires { ⌜ InRange r × (r .n1 ≡ 1 → ⊥) × (isHalf r ≡ false) × (2 ≤ r .v) × (r .v ≤ 4) ⌝ }
+    ensures { λ k. ⌜ k ≡ getD (kRows (r .n1) (r .n2) (r .v)) (r .i13) (beam 0 0) ⌝ }
+{
+    if r.v == 2 {
+        return k_two(r.n1, r.n2, r.i13);
+    }
+    k_three(r.n1, r.n2, r.i13)
+}
+
+// g of mode 2.
+fn g_of(v: u32) -> u32
+    ensures { λ x. ⌜ x ≡ g v ⌝ }
+{
+    if v == 1 { 4 } else { 2 }
+}
+
+// n of f(n).
+fn n_of(r: Report) -> u32
+    ensures { λ x. ⌜ x ≡ n r ⌝ }
+{
+    if settings::is_mode_two(r.n1, r.mode, r.v) {
+        return r.i2 % g_of(r.v);
+    }
+    r.i2
+}
+
+// B, before it is reduced.
+fn base_of(r: Report, half: bool) -> Beam
+    requires { ⌜ InRange r × (half ≡ isHalf r) ⌝ }
+    ensures { λ x. ⌜ x ≡ base r ⌝ }
+{
+    if half {
+        return Beam {
+            l: 2 * r.i11,
+            m: r.i12,
+        };
+    }
+    if !settings::is_mode_two(r.n1, r.mode, r.v) {
+        return Beam { l: r.i11, m: r.i12 };
+    }
+    let q = r.i2 / g_of(r.v);
+    if 1 < r.n2 {
+        return Beam {
+            l: 2 * r.i11 + q % 2,
+            m: 2 * r.i12 + q / 2,
+        };
+    }
+    Beam {
+        l: 2 * r.i11 + q,
+        m: 0,
+    }
+}
+
+// One number of a beam: x moved by k steps of 4, modulo the beams w.
+fn moved_along(x: u32, k: u32, w: u32) -> u32
+    requires { ⌜ (x ≤ 255) × (k ≤ 255) × (1 ≤ w) ⌝ }
+    ensures { λ y. ⌜ y ≡ (x + 4 * k) % w ⌝ }
+{
+    (x + 4 * k) % w
+}
+
+// A beam moved by k steps of (O1,O2), reduced. For N2 = 1 there is one m, whatever O2.
+fn moved_by(r: Report, s: Sizes, x: Beam, k: Beam) -> Beam
+    requires { ⌜ (isSetting (r .n1) (r .n2) ≡ true) × (r .n1 ≡ 1 → ⊥) × (s ≡ sizesOf (r .n1) (r .n2)) × Small x × Small k ⌝ }
+    ensures { λ y. ⌜ y ≡ moved r x k ⌝ }
+{
+    Beam {
+        l: moved_along(x.l, k.l, s.across),
+        m: moved_along(x.m, k.m, s.down),
+    }
+}
+
+// One step for N2 > 1, and another for N2 = 1.
+fn step_for(n2: u32, wide: Beam, line: Beam) -> Beam
+    ensures { λ k. ⌜ k ≡ cond (ltb 1 n2) wide line ⌝ }
+{
+    if 1 < n2 { wide } else { line }
+}
+
+// What is said of a report with so many of four beams.
+fn said(r: Report, s: Sizes, count: u32, a: Beam, b: Beam, c: Beam, d: Beam) -> Beams
+    ensures { λ y. ⌜ y ≡ saidOf r s count (a ∷ b ∷ c ∷ d ∷ []) ⌝ }
+{
+    Beams {
+        refusal: 0,
+        ports: s.ports,
+        down: s.down,
+        bytes: s.bytes,
+        count: count,
+        l: [a.l, b.l, c.l, d.l],
+        m: [a.m, b.m, c.m, d.m],
+        n: n_of(r),
+    }
+}
+
+// v = 5 to 8: x is B before it is reduced, and a afterwards.
+fn choose_many(r: Report, s: Sizes, x: Beam, a: Beam) -> Beams
+    requires { ⌜ InRange r × (s ≡ sizesOf (r .n1) (r .n2)) × (x ≡ base r) × (a ≡ moved r x (beam 0 0)) × (5 ≤ r .v) ⌝ }
+    ensures { λ y. ⌜ y ≡ saidOf r s (length (beams r)) (beams r) ⌝ }
+{
+    let b = moved_by(r, s, x, Beam { l: 1, m: 0 });
+    if r.v <= 6 {
+        let k = step_for(r.n2, Beam { l: 1, m: 1 }, Beam { l: 2, m: 0 });
+        let c = moved_by(r, s, x, k);
+        return said(r, s, 3, a, b, c, NONE);
+    }
+    let k = step_for(r.n2, Beam { l: 0, m: 1 }, Beam { l: 2, m: 0 });
+    let c = moved_by(r, s, x, k);
+    let j = step_for(r.n2, Beam { l: 1, m: 1 }, Beam { l: 3, m: 0 });
+    let d = moved_by(r, s, x, j);
+    said(r, s, 4, a, b, c, d)
+}
+
+// The beams of a report. Two ports have no others than (0,0).
+pub fn choose(r: Report, s: Sizes) -> Beams
+    requires { ⌜ InRange r × (s ≡ sizesOf (r .n1) (r .n2)) ⌝ }
+    ensures { λ y. ⌜ y ≡ saidOf r s (length (beams r)) (beams r) ⌝ }
+{
+    if r.n1 == 1 {
+        return said(r, s, r.v, NONE, NONE, NONE, NONE);
+    }
+    let half = settings::is_half_length(s.ports, r.v);
+    let x = base_of(r, half);
+    let a = moved_by(r, s, x, NONE);
+    if 5 <= r.v {
+        return choose_many(r, s, x, a);
+    }
+    if r.v == 1 {
+        return said(r, s, 1, a, NONE, NONE, NONE);
+    }
+    if half {
+        return said(r, s, 1, a, NONE, NONE, NONE);
+    }
+    let b = moved_by(r, s, x, k_row(r));
+    said(r, s, 2, a, b, NONE, NONE)
+}
