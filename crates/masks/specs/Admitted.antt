@@ -1,12 +1,18 @@
 -- The shared refusals among a codebook's own: 3 stands after 1 and 2, 5 after 4, and 10 and 11 stand last.
 use mathlib.Core.Bool.{not, _||_}
-use mathlib.Core.List.{List}
-use Prim.Native.Nat.{ℕ}
+use mathlib.Core.List.{List, [], _∷_}
+use Prim.Native.Nat.{ℕ, _+_, _*_}
 use lib.Dec.{eqb, ltb}
-use lib.ListN.{length, take}
+use lib.ListN.{length, getD, take}
 use Rattle.ground.specs.Cases.{_⇒_∣_}
 use Rattle.plan.specs.Masks.{barred, rankBarred}
 use Rattle.masks.specs.declared.Needs.{Needs}
+
+-- the bits of up to four beams, in a mask of so many bits for each l
+unfoldable pub bitsOf : ℕ → ℕ → List ℕ → List ℕ → List ℕ
+bitsOf n width l m =
+    let bit : ℕ → ℕ = λ i. width * getD l i 0 + getD m i 0 in
+    take n (bit 0 ∷ bit 1 ∷ bit 2 ∷ bit 3 ∷ [])
 
 -- the number of the refusal, or 0
 unfoldable pub admitted : Needs → List ℕ → ℕ → ℕ → ℕ
@@ -16,6 +22,6 @@ admitted x mask ranks room =
     ∣ eqb (x .refusal) 4 ⇒ 4
     ∣ rankBarred ranks (x .v) ⇒ 5
     ∣ not (eqb (x .refusal) 0) ⇒ x .refusal
-    ∣ barred mask (take (x .count) (x .bits)) ⇒ 10
+    ∣ barred mask (bitsOf (x .count) (x .width) (x .l) (x .m)) ⇒ 10
     ∣ ltb room (x .entries) ⇒ 11
     ∣ 0

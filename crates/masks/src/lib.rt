@@ -1,48 +1,71 @@
 // The refusals that every codebook shares: the masks, and the room in the lent buffer.
 ghost use mathlib.Core.Path.{_≡_};
-ghost use Prim.Native.Nat.{_≤_};
-ghost use lib.ListN.{length, take};
-ghost use Rattle.plan.specs.Masks.{bit, barred, rankBarred};
-ghost use Rattle.masks.specs.Admitted.{admitted};
+ghost use Prim.Native.Nat.{_+_, _*_, _≤_};
+ghost use lib.ListN.{drop};
+ghost use Rattle.plan.specs.Masks.{isZero, barred, rankBarred};
+ghost use Rattle.masks.specs.Admitted.{bitsOf, admitted};
 
 // What a report asks for: the first of its codebook's own refusals that applies, or 0; the bytes of the beam mask; its
-// layers; the entries v·P of its precoder; and how many bits of the beam mask it reads, and which, up to four.
+// layers; the entries v·P of its precoder; and how many beams the mask is asked for, up to four, how many bits it has for
+// each l, and l and m of each beam.
 pub struct Needs {
     pub refusal: u32,
     pub bytes: u32,
     pub v: u32,
     pub entries: u32,
     pub count: u32,
-    pub bits: [u32; 4],
+    pub width: u32,
+    pub l: [u32; 4],
+    pub m: [u32; 4],
 }
 
-// Bit k of a mask; past its end there are zeros.
-fn bit_at(mask: &[u8], k: u32) -> u32
-    ensures { λ b. ⌜ b ≡ bit (now (mask .entry)) k ⌝ }
+// Whether the bit of a beam is zero; past the end of a mask there are zeros.
+fn is_zero(mask: &[u8], width: u32, l: u32, m: u32) -> bool
+    ensures { λ t. ⌜ t ≡ isZero (now (mask .entry)) (width * l + m) ⌝ }
 {
+    let k = width as u64 * l as u64 + m as u64;
     let i = (k / 8) as usize;
     if mask.len() <= i {
-        return 0;
+        return true;
     }
     let byte = mask[i] as u32;
-    (byte >> (k % 8)) % 2
+    (byte >> (k % 8) as u32) % 2 == 0
 }
 
-// Whether one of the first n bits is zero.
-fn some_zero(mask: &[u8], n: u32, bits: [u32; 4]) -> bool
-    ensures { λ t. ⌜ t ≡ barred (now (mask .entry)) (take n bits) ⌝ }
+// Whether one of the bits after the first is zero, of two beams or more.
+fn later_zero(mask: &[u8], n: u32, width: u32, l: [u32; 4], m: [u32; 4]) -> bool
+    requires { ⌜ 2 ≤ n ⌝ }
+    ensures { λ t. ⌜ t ≡ barred (now (mask .entry)) (drop 1 (bitsOf n width l m)) ⌝ }
 {
-    let mut i = 0;
-    while i < n {
-        if 4 <= i {
-            return false;
-        }
-        if bit_at(mask, bits[i as usize]) == 0 {
-            return true;
-        }
-        i += 1;
+    if is_zero(mask, width, l[1], m[1]) {
+        return true;
     }
-    false
+    if n == 2 {
+        return false;
+    }
+    if is_zero(mask, width, l[2], m[2]) {
+        return true;
+    }
+    if n == 3 {
+        return false;
+    }
+    is_zero(mask, width, l[3], m[3])
+}
+
+// Whether one of the bits is zero.
+fn some_zero(mask: &[u8], n: u32, width: u32, l: [u32; 4], m: [u32; 4]) -> bool
+    ensures { λ t. ⌜ t ≡ barred (now (mask .entry)) (bitsOf n width l m) ⌝ }
+{
+    if n == 0 {
+        return false;
+    }
+    if is_zero(mask, width, l[0], m[0]) {
+        return true;
+    }
+    if n == 1 {
+        return false;
+    }
+    later_zero(mask, n, width, l, m)
 }
 
 // Whether the bit of v layers is zero.
@@ -81,8 +104,9 @@ pub fn admit(x: Needs, mask: &[u8], ranks: u8, room: usize) -> u32
     if x.refusal != 0 {
         return x.refusal;
     }
-    let bits = x.bits;
-    if some_zero(mask, x.count, bits) {
+    let l = x.l;
+    let m = x.m;
+    if some_zero(mask, x.count, x.width, l, m) {
         return 10;
     }
     if room < x.entries as usize {

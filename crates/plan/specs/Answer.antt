@@ -108,13 +108,10 @@ module _ {R : Type 0} (b : Codebook R) where
 abbrev pub blank : Drawing
 blank = record {
   v = 0;
-  blocks = 0;
+  pairs = 0;
   rows = 0;
   columns = 0;
-  across = 0;
-  down = 0;
-  l = 0 ∷ 0 ∷ 0 ∷ 0 ∷ [];
-  m = 0 ∷ 0 ∷ 0 ∷ 0 ∷ [];
+  steps = 0 ∷ 0 ∷ 0 ∷ 0 ∷ [];
   co = 0 ∷ 0 ∷ 0 ∷ 0 ∷ 0 ∷ 0 ∷ 0 ∷ 0 ∷ [];
   codes = 0 ∷ 0 ∷ 0 ∷ 0 ∷ 0 ∷ 0 ∷ 0 ∷ 0 ∷ [];
 }
@@ -123,6 +120,6 @@ blank = record {
 abbrev pub refusedBy : ℕ → Judged
 refusedBy k = record { given = refused k; drawing = blank }
 
-abbrev pub judged : Record → Drawing → ℕ → Judged
-judged accepted s zero = record { given = accepted; drawing = s }
-judged accepted s (suc k) = refusedBy (suc k)
+abbrev pub judgedBy : Record → Drawing → ℕ → Judged
+judgedBy accepted s zero = record { given = accepted; drawing = s }
+judgedBy accepted s (suc k) = refusedBy (suc k)

@@ -3,7 +3,7 @@ use mathlib.Core.Path.{_≡_}
 use mathlib.Core.Bool.{Bool, _&&_}
 use mathlib.Core.List.{List, [], _∷_, _++_}
 use Prim.Native.Nat.{ℕ, zero, suc, _+_, _*_, _/_, _%_, _^_}
-use lib.Dec.{eqb, leb}
+use lib.Dec.{leb}
 use lib.ListN.{length, drop, getD}
 use Rattle.ground.specs.Cases.{_⇒_∣_}
 use Rattle.turn.specs.Phase.{half}
@@ -15,7 +15,7 @@ abbrev pub entries : Drawing → ℕ
 entries s = s .rows * s .columns
 
 abbrev pub height : Drawing → ℕ
-height s = s .blocks * entries s
+height s = 2 * (s .pairs * entries s)
 
 -- the code of a layer: the place of its beam, whether it takes the co-phases, and whether half a turn is added to block q
 abbrev pub placeOf : ℕ → ℕ
@@ -27,33 +27,41 @@ takes code = code / 256 % 2
 abbrev pub marked : ℕ → ℕ → ℕ
 marked code q = code / 2 ^ q % 2
 
--- what is added to block q: nothing to the first
+-- what is added to block q, and to the first n blocks
 unfoldable pub coAt : List ℕ → ℕ → ℕ → ℕ
-coAt co code q = eqb q 0 ⇒ 0 ∣ takes code * getD co q 0 + marked code q * half
+coAt co code q = takes code * getD co q 0 + marked code q * half
 
--- what is added to the first n blocks
 unfoldable pub coRow : List ℕ → ℕ → ℕ → List ℕ
 coRow co code zero = []
 coRow co code (suc n) = coRow co code n ++ (coAt co code n ∷ [])
 
+-- the two steps of a beam
+abbrev pub stepX : ℕ → ℕ
+stepX step = step % 256
+
+abbrev pub stepY : ℕ → ℕ
+stepY step = step / 256 % 256
+
 -- the beam at a place
 unfoldable pub beamAt : Drawing → ℕ → List ℕ
-beamAt s place = grid (s .rows) (getD (s .l) place 0 * s .across) (s .columns) (getD (s .m) place 0 * s .down)
+beamAt s place =
+    let step = getD (s .steps) place 0 in
+    grid (s .rows) (stepX step) (s .columns) (stepY step)
 
 -- the column of a layer, by its code
 unfoldable pub columnAt : Drawing → ℕ → List ℕ
-columnAt s code = column (coRow (s .co) code (s .blocks)) (beamAt s (placeOf code))
+columnAt s code = column (coRow (s .co) code (2 * s .pairs)) (beamAt s (placeOf code))
 
 -- the first n layers, one after the other
 unfoldable pub drawn : Drawing → ℕ → List ℕ
 drawn s zero = []
 drawn s (suc n) = drawn s n ++ columnAt s (getD (s .codes) n 0)
 
--- sizes that can be drawn in a buffer of so many entries, sixteen of them past the last
+-- sizes that can be drawn in a buffer of so many entries, with sixteen past the last
 unfoldable pub drawable : Drawing → ℕ → Bool
 drawable s room =
-    leb (s .v) 8 && leb (s .blocks) 8 && leb (s .rows) 16 && leb 1 (s .columns) && leb (s .columns) 4
-    && leb (entries s) 16 && leb (s .v * height s + 16) room
+    leb (s .v) 8 && leb (s .pairs) 4 && leb 1 (s .columns) && leb (s .columns) 4 && leb (entries s) 16
+    && leb (s .v * height s + 16) room
 
 -- what a lent list holds afterwards: the layers and then what was lent, or all of it as lent
 pub record Written (s : Drawing) (lent : List ℕ) (done : Bool) (left : List ℕ) : Type 0 where

@@ -3,9 +3,9 @@ use mathlib.Core.Path.{_≡_}
 use mathlib.Core.Logic.{_≢_, _⊎_}
 use mathlib.Core.Bool.{Bool}
 use mathlib.Core.List.{List}
-use Prim.Native.Nat.{ℕ, _+_, _*_, _%_, _<_, _≤_}
-use lib.ListN.{length, getD}
-use Rattle.turn.specs.Phase.{eighth, twelfth}
+use Prim.Native.Nat.{ℕ, _+_, _*_, _/_, _%_, _<_, _≤_}
+use lib.ListN.{length}
+use Rattle.turn.specs.Phase.{turn, eighth, twelfth, thirtySecond}
 use Rattle.turn.specs.Column.{Setting, Divides}
 use Rattle.turn.specs.Exact.{differences}
 use Rattle.turn.specs.Cancel.{Multiples, Coarse}
@@ -25,14 +25,14 @@ pub data Told (c : Setting) (x y : Layer) : Type 0 where
   by-beams : (l m j1 j2 k1 k2 : ℕ) → Moved c l m j1 j2 x → Moved c l m k1 k2 y → Apart c j1 j2 k1 k2
       → Common c 3 ⊎ (Common c twelfth × Coarse (differences (x .co) (y .co))) → Told c x y
 
--- Beside its sizes: a beam of each layer is reduced, its co-phases are one for each block, whole eighths of a turn, and
--- nothing for the first.
+-- Beside its sizes: the beam of each layer is reduced; its co-phases are one for each block, whole eighths of a turn; and
+-- where P divides 16, the steps of a beam are whole 32nds of a turn.
 pub record Sound (p : Plan) : Type 0 where
   pub whole : Divides (p .block)
   pub all : p .blocks * (p .block .n1 * p .block .n2) ≡ p .ports
   pub few : p .ports ≤ 32
   pub narrow : p .block .n2 ≤ 4
-  pub two : 2 ≤ p .blocks
+  pub even : p .blocks % 2 ≡ 0
   pub panels : p .blocks ≤ 8
   pub many : length (p .layers) ≡ p .v
   pub some : 1 ≤ p .v
@@ -40,6 +40,7 @@ pub record Sound (p : Plan) : Type 0 where
   pub reduced-l : (j : ℕ) → j < p .v → layerAt p j .l < p .block .n1 * p .block .o1
   pub reduced-m : (j : ℕ) → j < p .v → layerAt p j .m < p .block .n2 * p .block .o2
   pub long : (j : ℕ) → j < p .v → length (layerAt p j .co) ≡ p .blocks
-  pub zero : (j : ℕ) → j < p .v → getD (layerAt p j .co) 0 0 ≡ 0
   pub eighths : (j : ℕ) → j < p .v → Multiples eighth (layerAt p j .co)
+  pub coarse : 16 % p .ports ≡ 0
+      → (turn / (p .block .n1 * p .block .o1) % thirtySecond ≡ 0) × (turn / (p .block .n2 * p .block .o2) % thirtySecond ≡ 0)
   pub told : (j k : ℕ) → j < p .v → k < p .v → j ≢ k → Told (p .block) (layerAt p j) (layerAt p k)

@@ -13,18 +13,16 @@ pub struct Record {
     pub scale: u32,
 }
 
-// What the writer is handed of a plan: v layers; a column of so many blocks, each of rows by columns; the phases for one
-// step of l and of m; l and m of up to four beams, reduced; and up to eight co-phases. The code of a layer is 512 times the
-// place of its beam, 256 more where it takes the co-phases, and 2^q more where half a turn is added to block q.
+// What the writer is handed of a plan: v layers; a column of so many pairs of blocks, each block of rows by columns; the
+// steps of up to four beams, x + 256·y for x parts of a turn from row to row and y from entry to entry; and up to eight
+// co-phases. The code of a layer is 512 times the place of its beam, 256 more where it takes the co-phases, and 2^q more
+// where half a turn is added to block q.
 pub struct Drawing {
-    pub v: usize,
-    pub blocks: usize,
-    pub rows: usize,
-    pub columns: usize,
-    pub across: Part,
-    pub down: Part,
-    pub l: [u8; 4],
-    pub m: [u8; 4],
+    pub v: u32,
+    pub pairs: u32,
+    pub rows: u32,
+    pub columns: u32,
+    pub steps: [u32; 4],
     pub co: [Part; 8],
     pub codes: [u16; 8],
 }
@@ -48,13 +46,10 @@ pub fn refuse(number: u32) -> Judged
         },
         drawing: Drawing {
             v: 0,
-            blocks: 0,
+            pairs: 0,
             rows: 0,
             columns: 0,
-            across: 0,
-            down: 0,
-            l: [0; 4],
-            m: [0; 4],
+            steps: [0; 4],
             co: [0; 8],
             codes: [0; 8],
         },

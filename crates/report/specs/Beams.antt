@@ -1,5 +1,5 @@
 -- The beams of a report: B, and how far B', B'' and B''' stand from it.
-use mathlib.Core.Bool.{Bool, _||_}
+use mathlib.Core.Bool.{Bool, false, _||_}
 use mathlib.Core.List.{List, [], _∷_, map}
 use Prim.Native.Nat.{ℕ, zero, suc, _+_, _*_, _/_, _%_, _≤_}
 use lib.Dec.{eqb, leb, ltb}
@@ -72,24 +72,28 @@ abbrev pub refusedWith : ℕ → Sizes → Beams
 refusedWith k s = record {
   refusal = k;
   ports = s .ports;
+  across = s .across;
   down = s .down;
   bytes = s .bytes;
   count = 0;
   l = 0 ∷ 0 ∷ 0 ∷ 0 ∷ [];
   m = 0 ∷ 0 ∷ 0 ∷ 0 ∷ [];
   n = 0;
+  half = false;
 }
 
-abbrev pub saidOf : Report → Sizes → ℕ → List Beam → Beams
-saidOf r s count xs = record {
+abbrev pub saidOf : Report → Sizes → Bool → ℕ → List Beam → Beams
+saidOf r s half count xs = record {
   refusal = 0;
   ports = s .ports;
+  across = s .across;
   down = s .down;
   bytes = s .bytes;
   count = count;
   l = four (λ x. x .l) xs;
   m = four (λ x. x .m) xs;
   n = n r;
+  half = half;
 }
 
 -- numbers far from the limits of the code's arithmetic
@@ -99,7 +103,7 @@ pub record Small (x : Beam) : Type 0 where
 
 -- what the report's own numbers say, by the number of its refusal
 abbrev pub said : Report → ℕ → Beams
-said r zero = saidOf r (sizesOf (r .n1) (r .n2)) (length (beams r)) (beams r)
+said r zero = saidOf r (sizesOf (r .n1) (r .n2)) (isHalf r) (length (beams r)) (beams r)
 said r (suc k) = refusedWith (suc k) (sizesOf (r .n1) (r .n2))
 
 unfoldable pub beamsOf : Report → Beams

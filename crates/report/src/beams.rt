@@ -163,46 +163,48 @@ fn step_for(n2: u32, wide: Beam, line: Beam) -> Beam
 }
 
 // What is said of a report with so many of four beams.
-fn said(r: Report, s: Sizes, count: u32, a: Beam, b: Beam, c: Beam, d: Beam) -> Beams
-    ensures { λ y. ⌜ y ≡ saidOf r s count (a ∷ b ∷ c ∷ d ∷ []) ⌝ }
+fn said(r: Report, s: Sizes, half: bool, count: u32, a: Beam, b: Beam, c: Beam, d: Beam) -> Beams
+    ensures { λ y. ⌜ y ≡ saidOf r s half count (a ∷ b ∷ c ∷ d ∷ []) ⌝ }
 {
     Beams {
         refusal: 0,
         ports: s.ports,
+        across: s.across,
         down: s.down,
         bytes: s.bytes,
         count: count,
         l: [a.l, b.l, c.l, d.l],
         m: [a.m, b.m, c.m, d.m],
         n: n_of(r),
+        half: half,
     }
 }
 
 // v = 5 to 8: x is B before it is reduced, and a afterwards.
 fn choose_many(r: Report, s: Sizes, x: Beam, a: Beam) -> Beams
     requires { ⌜ InRange r × (s ≡ sizesOf (r .n1) (r .n2)) × (x ≡ base r) × (a ≡ moved r x (beam 0 0)) × (5 ≤ r .v) ⌝ }
-    ensures { λ y. ⌜ y ≡ saidOf r s (length (beams r)) (beams r) ⌝ }
+    ensures { λ y. ⌜ y ≡ saidOf r s (isHalf r) (length (beams r)) (beams r) ⌝ }
 {
     let b = moved_by(r, s, x, Beam { l: 1, m: 0 });
     if r.v <= 6 {
         let k = step_for(r.n2, Beam { l: 1, m: 1 }, Beam { l: 2, m: 0 });
         let c = moved_by(r, s, x, k);
-        return said(r, s, 3, a, b, c, NONE);
+        return said(r, s, false, 3, a, b, c, NONE);
     }
     let k = step_for(r.n2, Beam { l: 0, m: 1 }, Beam { l: 2, m: 0 });
     let c = moved_by(r, s, x, k);
     let j = step_for(r.n2, Beam { l: 1, m: 1 }, Beam { l: 3, m: 0 });
     let d = moved_by(r, s, x, j);
-    said(r, s, 4, a, b, c, d)
+    said(r, s, false, 4, a, b, c, d)
 }
 
 // The beams of a report. Two ports have no others than (0,0).
 pub fn choose(r: Report, s: Sizes) -> Beams
     requires { ⌜ InRange r × (s ≡ sizesOf (r .n1) (r .n2)) ⌝ }
-    ensures { λ y. ⌜ y ≡ saidOf r s (length (beams r)) (beams r) ⌝ }
+    ensures { λ y. ⌜ y ≡ saidOf r s (isHalf r) (length (beams r)) (beams r) ⌝ }
 {
     if r.n1 == 1 {
-        return said(r, s, r.v, NONE, NONE, NONE, NONE);
+        return said(r, s, false, r.v, NONE, NONE, NONE, NONE);
     }
     let half = settings::is_half_length(s.ports, r.v);
     let x = base_of(r, half);
@@ -211,11 +213,11 @@ pub fn choose(r: Report, s: Sizes) -> Beams
         return choose_many(r, s, x, a);
     }
     if r.v == 1 {
-        return said(r, s, 1, a, NONE, NONE, NONE);
+        return said(r, s, false, 1, a, NONE, NONE, NONE);
     }
     if half {
-        return said(r, s, 1, a, NONE, NONE, NONE);
+        return said(r, s, true, 1, a, NONE, NONE, NONE);
     }
     let b = moved_by(r, s, x, k_row(r));
-    said(r, s, 2, a, b, NONE, NONE)
+    said(r, s, false, 2, a, b, NONE, NONE)
 }

@@ -20,16 +20,19 @@ pub struct Report {
 }
 
 // What a report's own numbers say: the first of 1, 2, 4 and 6 to 9 that applies, and else 0; what its setting needs; and
-// where it is 0, how many beams the report has, l and m of B, B', B'', B''', reduced, and n of f(n). Unused places are 0.
+// where it is 0, how many beams the report has, l and m of B, B', B'', B''', reduced, n of f(n), and whether its beams are of
+// half length. Unused places are 0.
 pub struct Beams {
     pub refusal: u32,
     pub ports: u32,
+    pub across: u32,
     pub down: u32,
     pub bytes: u32,
     pub count: u32,
     pub l: [u32; 4],
     pub m: [u32; 4],
     pub n: u32,
+    pub half: bool,
 }
 
 // Judges a report by its own numbers, and gives its beams where they are in range. (2,1) with mode 1, two layers, i11 = 7,

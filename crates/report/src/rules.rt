@@ -49,11 +49,13 @@ pub fn refused(k: u32, s: Sizes) -> Beams
     Beams {
         refusal: k,
         ports: s.ports,
+        across: s.across,
         down: s.down,
         bytes: s.bytes,
         count: 0,
         l: [0; 4],
         m: [0; 4],
         n: 0,
+        half: false,
     }
 }

@@ -5,6 +5,7 @@ use lib.ListN.{getD, take, replicate}
 use Rattle.ground.specs.Cases.{_⇒_∣_}
 use Rattle.turn.specs.Phase.{turn, phase}
 use Rattle.settings.specs.Settings.{across, down}
+use Rattle.settings.specs.declared.Beam.{Beam}
 use Rattle.report.specs.declared.Report.{Report}
 use Rattle.report.specs.Beams.{isHalf, beams, four}
 use Rattle.plan.specs.declared.Drawing.{Drawing}
@@ -35,16 +36,17 @@ coPhases r =
     isHalf r ⇒ 0 ∷ phase (tOf r) ∷ phase (fOf r) ∷ phase (phase (fOf r) + phase (tOf r)) ∷ 0 ∷ 0 ∷ 0 ∷ 0 ∷ []
     ∣ 0 ∷ phase (fOf r) ∷ 0 ∷ 0 ∷ 0 ∷ 0 ∷ 0 ∷ 0 ∷ []
 
+-- the steps of a beam in parts of a turn, x + 256·y
+abbrev pub stepOf : Report → Beam → ℕ
+stepOf r x = x .l * (turn / across (r .n1)) + 256 * (x .m * (turn / down (r .n2)))
+
 unfoldable pub drawingOf : Report → Drawing
 drawingOf r = record {
   v = r .v;
-  blocks = blocks r;
+  pairs = blocks r / 2;
   rows = rows r;
   columns = r .n2;
-  across = turn / across (r .n1);
-  down = turn / down (r .n2);
-  l = four (λ x. x .l) (beams r);
-  m = four (λ x. x .m) (beams r);
+  steps = four (stepOf r) (beams r);
   co = coPhases r;
   codes = isHalf r ⇒ halfCodes ∣ codesOf (r .v);
 }

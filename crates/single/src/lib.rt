@@ -58,47 +58,52 @@ fn codes_of(v: u32) -> [u16; 8]
     EIGHT
 }
 
-fn bytes_of(x: [u32; 4]) -> [u8; 4] {
-    [x[0] as u8, x[1] as u8, x[2] as u8, x[3] as u8]
+// The steps of a beam, x + 256·y, where beam (1,0) has the step px and (0,1) the step py.
+fn step_of(l: u32, m: u32, px: u32, py: u32) -> u32 {
+    l * px + 256 * (m * py)
 }
 
-// The phase for one step of l or of m, in a direction of n antennas.
-fn parts(n: u32) -> Part {
-    if n == 1 {
-        return turn::TURN;
-    }
-    ((turn::TURN as u32) / (4 * n)) as Part
-}
-
-fn drawing_of(r: Report, b: Beams) -> Drawing {
+// The steps of the beams. Most reports have one or two.
+fn steps_of(b: Beams) -> [u32; 4] {
+    let px = turn::TURN as u32 / b.across;
+    let py = turn::TURN as u32 / b.down;
     let l = b.l;
     let m = b.m;
+    let first = step_of(l[0], m[0], px, py);
+    if b.count == 1 {
+        return [first, 0, 0, 0];
+    }
+    [
+        first,
+        step_of(l[1], m[1], px, py),
+        step_of(l[2], m[2], px, py),
+        step_of(l[3], m[3], px, py),
+    ]
+}
+
+// What is to be written of a report.
+fn drawing_of(r: Report, b: Beams) -> Drawing {
     let f = Phase::quarters(b.n);
-    if settings::is_half_length(b.ports, r.v) {
+    let steps = steps_of(b);
+    if b.half {
         let t = Phase::eighths(r.i13);
         let both = f.add(t);
         return Drawing {
-            v: r.v as usize,
-            blocks: 4,
-            rows: (r.n1 / 2) as usize,
-            columns: r.n2 as usize,
-            across: parts(r.n1),
-            down: parts(r.n2),
-            l: bytes_of(l),
-            m: bytes_of(m),
+            v: r.v,
+            pairs: 2,
+            rows: r.n1 / 2,
+            columns: r.n2,
+            steps: steps,
             co: [0, t.parts, f.parts, both.parts, 0, 0, 0, 0],
             codes: HALVES,
         };
     }
     Drawing {
-        v: r.v as usize,
-        blocks: 2,
-        rows: r.n1 as usize,
-        columns: r.n2 as usize,
-        across: parts(r.n1),
-        down: parts(r.n2),
-        l: bytes_of(l),
-        m: bytes_of(m),
+        v: r.v,
+        pairs: 1,
+        rows: r.n1,
+        columns: r.n2,
+        steps: steps,
         co: [0, f.parts, 0, 0, 0, 0, 0, 0],
         codes: codes_of(r.v),
     }
@@ -108,7 +113,7 @@ fn two_port_bit(r: Report) -> u32 {
     if r.v == 1 { r.i2 } else { 4 + r.i2 }
 }
 
-// What the report needs of the masks and the buffer.
+// What the report needs of the masks and the buffer. Two ports have one bit.
 fn needs_of(r: Report, b: Beams) -> Needs {
     if b.refusal != 0 {
         return Needs {
@@ -117,21 +122,24 @@ fn needs_of(r: Report, b: Beams) -> Needs {
             v: r.v,
             entries: 0,
             count: 0,
-            bits: [0; 4],
+            width: 0,
+            l: [0; 4],
+            m: [0; 4],
         };
     }
     let entries = r.v * b.ports;
     if r.n1 == 1 {
         return Needs {
             refusal: 0,
-            bytes: 1,
+            bytes: b.bytes,
             v: r.v,
             entries: entries,
             count: 1,
-            bits: [two_port_bit(r), 0, 0, 0],
+            width: 0,
+            l: [0; 4],
+            m: [two_port_bit(r), 0, 0, 0],
         };
     }
-    let w = b.down;
     let l = b.l;
     let m = b.m;
     Needs {
@@ -140,12 +148,9 @@ fn needs_of(r: Report, b: Beams) -> Needs {
         v: r.v,
         entries: entries,
         count: b.count,
-        bits: [
-            w * l[0] + m[0],
-            w * l[1] + m[1],
-            w * l[2] + m[2],
-            w * l[3] + m[3],
-        ],
+        width: b.down,
+        l: l,
+        m: m,
     }
 }
 

@@ -1,14 +1,13 @@
-// Beams, and columns made of them: the first block is the beam, and every other block is made from it.
+// Blocks of a column, in pairs: both polarisations of a panel.
 use turn::Part;
-use turn::Phase;
 
-// The places of a beam, the most entries that one has: what reads them has the same number of steps whatever the setting.
+// The places of a block, the most entries that one has: a loop over them has the same number of turns whatever the setting.
 pub const PLACES: usize = 16;
 
-// The phase of l steps.
-pub fn step(l: u8, of: Part) -> Part {
-    let x = Phase::of(l as u32 * of as u32);
-    x.parts
+// Two blocks of one beam.
+pub struct Pair {
+    pub first: [Part; PLACES],
+    pub second: [Part; PLACES],
 }
 
 // 32 / w, rounded up: with it i / w is a product and a shift, for i below 16.
@@ -25,23 +24,27 @@ fn shares(w: usize) -> u16 {
     8
 }
 
-// A beam in rows of w entries: at place i, which is entry b of row a, a steps of `across` and b of `down`.
-pub fn draw(w: usize, across: Part, down: Part) -> [Part; PLACES] {
-    let x = across as u16;
-    let y = down as u16;
+// Two blocks of a beam in rows of w entries: at place i, which is entry b of row a, a steps of x and b of y, with c added in
+// the first block and d in the second.
+pub fn draw(w: usize, x: u16, y: u16, c: u16, d: u16) -> Pair {
     let k = shares(w);
     let n = w as u16;
-    let mut beam = [0; PLACES];
+    let mut first = [0; PLACES];
+    let mut second = [0; PLACES];
     let mut i = 0;
     while i < PLACES {
         let j = i as u16;
         let a = j * k / 32;
         let b = j - a * n;
         let z = a * x + b * y;
-        beam[i] = (z % turn::TURN as u16) as Part;
+        first[i] = ((z + c) % turn::TURN as u16) as Part;
+        second[i] = ((z + d) % turn::TURN as u16) as Part;
         i += 1;
     }
-    beam
+    Pair {
+        first: first,
+        second: second,
+    }
 }
 
 // Sixteen entries from place `at` on.
@@ -55,55 +58,45 @@ pub fn places(out: &[Part], at: usize) -> [Part; PLACES] {
     kept
 }
 
-// Sixteen entries from place `at` on: the beam as it is.
-pub fn put(out: &mut [Part], at: usize, beam: [Part; PLACES]) {
+// Sixteen entries from place `at` on.
+pub fn put(out: &mut [Part], at: usize, block: [Part; PLACES]) {
     let mut i = 0;
     while i < PLACES {
-        out[at + i] = beam[i];
+        out[at + i] = block[i];
         i += 1;
     }
 }
 
-// Sixteen entries from place `at` on: the beam turned by c.
-fn block(out: &mut [Part], at: usize, beam: [Part; PLACES], c: Part) {
-    let mut i = 0;
-    while i < PLACES {
-        let x = Phase { parts: beam[i] };
-        let y = x.add(Phase { parts: c });
-        out[at + i] = y.parts;
-        i += 1;
-    }
+fn co_phase(co: [Part; 8], code: u16, q: usize) -> u16 {
+    let c = co[q] as u16;
+    let half = turn::Phase::HALF.parts as u16;
+    code / 256 % 2 * c + (code >> q) % 2 * half
 }
 
-// What is added to block q of a layer.
-fn co_phase(co: [Part; 8], code: u16, q: usize) -> Part {
-    let half = (code >> q) % 2 == 1;
-    if code / 256 % 2 == 1 {
-        let c = Phase { parts: co[q] };
-        let d = if half { c.opposite() } else { c };
-        return d.parts;
-    }
-    if half { Phase::HALF.parts } else { 0 }
-}
-
-// A column from place `at` on: n blocks of w entries, each the beam turned by its co-phase. A block is written with all
-// sixteen places of the beam, and the next one over those past its w entries, so that some entries after the column change.
-pub fn blocks(
+pub fn column(
     out: &mut [Part],
     at: usize,
-    w: usize,
     n: usize,
-    beam: [Part; PLACES],
+    h: usize,
+    w: usize,
+    step: u32,
     co: [Part; 8],
     code: u16,
 ) {
-    put(out, at, beam);
-    let mut q = 1;
-    let mut to = at + w;
+    let x = (step % 256) as u16;
+    let y = (step / 256 % 256) as u16;
+    let mut q = 0;
+    let mut to = at;
     while q < n {
-        let c = co_phase(co, code, q);
-        block(out, to, beam, c);
-        to += w;
+        let c = co_phase(co, code, 2 * q);
+        let d = co_phase(co, code, 2 * q + 1);
+        let pair = draw(w, x, y, c, d);
+        let first = pair.first;
+        let second = pair.second;
+        put(out, to, first);
+        to += h;
+        put(out, to, second);
+        to += h;
         q += 1;
     }
 }

@@ -1,5 +1,4 @@
 // The matrix of a plan, written into a lent buffer. Knows no report and no codebook.
-use fill::PLACES;
 use plan::Drawing;
 use turn::Part;
 ghost use mathlib.Core.Path.{_≡_};
@@ -14,10 +13,7 @@ fn is_drawable(s: Drawing, room: usize) -> bool
     if 8 < s.v {
         return false;
     }
-    if 8 < s.blocks {
-        return false;
-    }
-    if 16 < s.rows {
+    if 4 < s.pairs {
         return false;
     }
     if s.columns == 0 {
@@ -26,49 +22,30 @@ fn is_drawable(s: Drawing, room: usize) -> bool
     if 4 < s.columns {
         return false;
     }
-    let w = s.rows * s.columns;
-    if 16 < w {
+    let h = s.rows as u64 * s.columns as u64;
+    if 16 < h {
         return false;
     }
-    s.v * (s.blocks * w) + 16 <= room
+    let end = s.v as u64 * (2 * (s.pairs as u64 * h));
+    end as usize + 16 <= room
 }
 
-// The beam at a place.
-fn beam_at(s: Drawing, place: usize) -> [Part; PLACES] {
-    let l = s.l;
-    let m = s.m;
-    let across = fill::step(l[place], s.across);
-    let down = fill::step(m[place], s.down);
-    fill::draw(s.columns, across, down)
-}
-
-// The beam at a place, where the one at the place `before` stands: layers that follow each other often have the same.
-fn beam_for(s: Drawing, place: usize, before: usize, beam: [Part; PLACES]) -> [Part; PLACES] {
-    if place == before {
-        return beam;
-    }
-    beam_at(s, place)
-}
-
-// The layers, one after the other. Some entries after the last change.
+// The layers, one after the other. Some entries after the last change, fewer than sixteen.
 fn layers(s: Drawing, out: &mut [Part]) {
     let v = s.v;
-    let n = s.blocks;
-    let w = s.rows * s.columns;
-    let height = n * w;
+    let n = s.pairs as usize;
+    let w = s.columns as usize;
+    let h = s.rows as usize * w;
+    let height = 2 * (n * h);
     let co = s.co;
+    let steps = s.steps;
     let codes = s.codes;
-    let mut beam = [0; PLACES];
-    let mut before = 4;
     let mut j = 0;
     let mut at = 0;
     while j < v {
-        let code = codes[j];
+        let code = codes[j as usize];
         let place = (code / 512 % 4) as usize;
-        let next = beam_for(s, place, before, beam);
-        fill::blocks(out, at, w, n, next, co, code);
-        beam = next;
-        before = place;
+        fill::column(out, at, n, h, w, steps[place], co, code);
         at += height;
         j += 1;
     }
@@ -82,7 +59,7 @@ pub fn matrix(s: Drawing, out: &mut [Part]) -> bool
     if !is_drawable(s, out.len()) {
         return false;
     }
-    let end = s.v * (s.blocks * (s.rows * s.columns));
+    let end = (s.v * (2 * (s.pairs * (s.rows * s.columns)))) as usize;
     let kept = fill::places(out, end);
     layers(s, out);
     fill::put(out, end, kept);
