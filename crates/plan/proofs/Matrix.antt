@@ -1,0 +1,106 @@
+-- The matrix of a sound plan: its length, its layers, and what any two of them sum to.
+use mathlib.Core.Path.{_≡_, sym, ap, ap₂, _∙_, subst, subst₂}
+use mathlib.Core.Logic.{_≢_}
+use mathlib.Core.List.{List, map}
+use Prim.Native.Nat.{ℕ, _+_, _*_, _/_, _<_, _≤_}
+use native.Mathlib.Nat.{mod-eq-of-lt}
+use native.Mathlib.Omega.{arith}
+use lib.IntN.{natAbs}
+use lib.Arith.{digits-lt}
+use lib.ListN.{length, getD, length-map}
+use Rattle.turn.specs.Phase.{turn, phase}
+use Rattle.turn.specs.Column.{Setting, Divides, product, beam, column}
+use Rattle.turn.specs.Exact.{differences, Orthogonal}
+use Rattle.turn.proofs.Lists.{length-product, length-beam}
+use Rattle.turn.proofs.Entries.{beam-reduced, entry}
+use Rattle.turn.specs.Cancel.{Cancels}
+use Rattle.turn.proofs.Cancel.{cancels-orthogonal, opposites-cancel, beams-cancel}
+use Rattle.weight.specs.Products.{re, im, limit}
+use Rattle.weight.proofs.CrossSum.{between, cross-bound}
+use Rattle.ground.proofs.Lists.{length-join, join-part, join-entry}
+use Rattle.plan.specs.Plan.{Layer, Plan, past, layerAt, columnOf, matrix, layer}
+use Rattle.plan.specs.Sound.{Moved, Told, by-co-phases, by-beams, Sound}
+
+-- ---- two layers that are told apart
+
+abbrev blockOf : Setting → Layer → List ℕ
+blockOf c x = beam c (x .l) (x .m)
+
+-- the beam of a layer, from the one that it is steps away from
+beam-moved : (c : Setting) (l m k1 k2 : ℕ) (x : Layer) → Moved c l m k1 k2 x
+    → blockOf c x ≡ beam c (l + k1 * c .o1) (m + k2 * c .o2)
+beam-moved c l m k1 k2 x h = rw (h .across, h .down) (beam-reduced c _ _)
+
+pub told-cancels : (c : Setting) → Divides c → (x y : Layer) → Told c x y
+    → Cancels (differences (column (x .co) (blockOf c x)) (column (y .co) (blockOf c y)))
+told-cancels c whole x y (by-co-phases co ms ns e e′ even) =
+    rw (e, e′)
+    (opposites-cancel co ms ns even (blockOf c x) (blockOf c y) (length-beam c _ _ ∙ sym (length-beam c _ _)))
+told-cancels c whole x y (by-beams l m j1 j2 k1 k2 h h′ apart coarse) =
+    rw (beam-moved c l m j1 j2 x h, beam-moved c l m k1 k2 y h′)
+    (beams-cancel c whole l m j1 j2 k1 k2 apart (x .co) (y .co) coarse)
+
+-- ---- a sound plan
+
+module _ (p : Plan) (s : Sound p) where
+  length-column : (x : Layer) → length (columnOf p x) ≡ length (x .co) * (p .block .n1 * p .block .n2)
+  unfolding columnOf column
+  length-column x =
+      length-map (product (x .co) (blockOf (p .block) x)) phase
+      ∙ length-product (x .co) (blockOf (p .block) x)
+      ∙ ap (λ (n : ℕ). length (x .co) * n) (length-beam (p .block) (x .l) (x .m))
+
+  -- an entry for each port
+  pub layer-long : (j : ℕ) → j < p .v → length (columnOf p (layerAt p j)) ≡ p .ports
+  layer-long j h =
+      length-column (layerAt p j) ∙ ap (λ (n : ℕ). n * (p .block .n1 * p .block .n2)) (s .long j h) ∙ s .all
+
+  each-long : (j : ℕ) → j < length (p .layers) → length (columnOf p (layerAt p j)) ≡ p .ports
+  each-long j h = layer-long j (omega (arith, s .many))
+
+  -- in each layer
+  pub length-matrix : length (matrix p) ≡ p .v * p .ports
+  unfolding matrix
+  length-matrix =
+      length-join (columnOf p) (p .layers) past (p .ports) each-long ∙ ap (λ (n : ℕ). n * p .ports) (s .many)
+
+  -- layer j of the matrix is its column
+  pub matrix-layer : (j : ℕ) → j < p .v → layer (p .ports) j (matrix p) ≡ columnOf p (layerAt p j)
+  unfolding matrix
+  matrix-layer j h = join-part (columnOf p) (p .layers) past (p .ports) each-long j (omega (arith, s .many))
+
+  module _ (j k : ℕ) (hj : j < p .v) (hk : k < p .v) (ne : j ≢ k) where
+    pub layers-cancel : Cancels (differences (columnOf p (layerAt p j)) (columnOf p (layerAt p k)))
+    unfolding columnOf
+    layers-cancel = told-cancels (p .block) (s .whole) (layerAt p j) (layerAt p k) (s .told j k hj hk ne)
+
+    -- any two are exactly orthogonal
+    pub layers-orthogonal : Orthogonal (layer (p .ports) j (matrix p)) (layer (p .ports) k (matrix p))
+    layers-orthogonal =
+        subst₂ Orthogonal (sym (matrix-layer j hj)) (sym (matrix-layer k hk)) (cancels-orthogonal _ _ layers-cancel)
+
+    -- and their weights have a small cross-sum
+    pub cross-small : let one = columnOf p (layerAt p j) in let other = columnOf p (layerAt p k) in
+        (natAbs (between re one other) ≤ limit * p .ports) × (natAbs (between im one other) ≤ limit * p .ports)
+    cross-small =
+        let one = columnOf p (layerAt p j) in
+        let other = columnOf p (layerAt p k) in
+        subst (λ (n : ℕ). (natAbs (between re one other) ≤ limit * n) × (natAbs (between im one other) ≤ limit * n))
+        (layer-long j hj) (cross-bound one other layers-cancel)
+
+  -- The entry of layer j at (a,b) of block q: the block's co-phase, a·l·turn/(N1·O1) and b·m·turn/(N2·O2), with the layer's
+  -- beam (l,m) reduced. b runs fastest, then a, then the blocks, then the layers.
+  pub matrix-entry : (j q a b : ℕ) → j < p .v → q < p .blocks → a < p .block .n1 → b < p .block .n2
+      → let x = layerAt p j in let c = p .block in
+      getD (matrix p) (j * p .ports + (q * (c .n1 * c .n2) + (a * c .n2 + b))) 0
+      ≡ phase (getD (x .co) q 0 + (a * x .l * turn / (c .n1 * c .o1) + b * x .m * turn / (c .n2 * c .o2)))
+  unfolding matrix columnOf
+  matrix-entry j q a b hj hq ha hb =
+      let x = layerAt p j in
+      let c = p .block in
+      join-entry (columnOf p) (p .layers) past 0 (p .ports) each-long j (q * (c .n1 * c .n2) + (a * c .n2 + b))
+      (omega (arith, s .many))
+      (subst (λ (n : ℕ). q * (c .n1 * c .n2) + (a * c .n2 + b) < n) (s .all) (digits-lt hq (digits-lt ha hb)))
+      ∙ entry c (s .whole) (x .l) (x .m) a b ha hb (x .co) q (subst (λ (n : ℕ). q < n) (sym (s .long j hj)) hq)
+      ∙ ap₂ (λ (l m : ℕ). phase (getD (x .co) q 0 + (a * l * turn / (c .n1 * c .o1) + b * m * turn / (c .n2 * c .o2))))
+      (mod-eq-of-lt (s .reduced-l j hj)) (mod-eq-of-lt (s .reduced-m j hj))

@@ -1,0 +1,7 @@
+-- The public function has one outcome on every input.
+use mathlib.Core.Path.{sym, _∙_}
+use Rattle.ground.specs.Unique.{Unique}
+use Rattle.plan.proofs.refuse.Reads as refuse
+
+pub refuse-unique : Unique refuse.Learnt
+refuse-unique k a r r′ e e′ p q = p ∙ sym q
