@@ -1,13 +1,9 @@
 // The settings (N1,N2) of the single-panel codebook, and how many values each index has.
 ghost use mathlib.Core.Path.{_≡_};
-ghost use mathlib.Core.Bool.{true, false, cond};
-ghost use Prim.Native.Nat.{_*_, _/_, _<_, _≤_};
-ghost use lib.Dec.{eqb};
-ghost use lib.ListN.{length};
+ghost use Prim.Native.Nat.{_≤_};
 ghost use Rattle.ground.specs.Cases.{_⇒_∣_};
-ghost use Rattle.settings.specs.Settings.{isSetting, ports, across, down, maskBytes, sizesOf};
-ghost use Rattle.settings.specs.Ranges.{isMode, isRank, modeTwo, halfLength, kTwo, kThree};
-ghost use Rattle.settings.specs.Ranges.{halvesI11, halvesI12, i13Values, i2Values, rangesOf};
+ghost use Rattle.settings.specs.Settings.{isSetting, down, maskBytes, sizesOf};
+ghost use Rattle.settings.specs.Ranges.{rangesOf};
 
 mod values;
 
@@ -61,28 +57,18 @@ fn is_setting(n1: u32, n2: u32) -> bool
     (row >> n1) % 2 == 1
 }
 
-// The beams in a direction of n antennas: both directions count them alike.
-fn beams_along(n: u32) -> u32
-    requires { ⌜ (1 ≤ n) × (n ≤ 16) ⌝ }
-    ensures { λ w. ⌜ (w ≡ across n) × (w ≡ down n) ⌝ }
+// N2·O2.
+fn beams_down(n2: u32) -> u32
+    requires { ⌜ n2 ≤ 4 ⌝ }
+    ensures { λ w. ⌜ w ≡ down n2 ⌝ }
 {
-    if n == 1 {
-        return 1;
+    if 1 < n2 {
+        return n2 * 4;
     }
-    4 * n
+    n2
 }
 
-// The bytes of the beam mask, for so many ports and beams.
-fn bytes_of(p: u32, beams: u32) -> u32
-    ensures { λ n. ⌜ n ≡ cond (eqb p 2) 1 (beams / 8) ⌝ }
-{
-    if p == 2 {
-        return 1;
-    }
-    beams / 8
-}
-
-// What follows from a setting, and zeros for a pair that is none.
+// What follows from a setting, and zeros for a pair that is none. (1,1) is the one setting with N1 = 1.
 fn sizes_of(n1: u32, n2: u32) -> Sizes
     ensures { λ s. ⌜ s ≡ sizesOf n1 n2 ⌝ }
 {
@@ -94,10 +80,18 @@ fn sizes_of(n1: u32, n2: u32) -> Sizes
             bytes: 0,
         };
     }
-    let across = beams_along(n1);
-    let down = beams_along(n2);
+    if n1 == 1 {
+        return Sizes {
+            ports: 2,
+            across: 1,
+            down: 1,
+            bytes: 1,
+        };
+    }
     let ports = 2 * (n1 * n2);
-    let bytes = bytes_of(ports, across * down);
+    let across = n1 * 4;
+    let down = beams_down(n2);
+    let bytes = across * down / 8;
     Sizes {
         ports: ports,
         across: across,
@@ -134,17 +128,11 @@ pub fn ranges_of(n1: u32, n2: u32, mode: u32, v: u32) -> Ranges
 {
     let s = sizes_of(n1, n2);
     let p = s.ports;
-    if p == 0 {
+    if !values::is_ranked(p, mode, v) {
         return no_values(s);
     }
-    if !values::is_mode(mode) {
-        return no_values(s);
-    }
-    if !values::is_rank(p, v) {
-        return no_values(s);
-    }
-    let i11 = values::halved(values::halves_i11(n1, n2, mode, v, p), s.across);
-    let i12 = values::halved(values::halves_i12(n1, n2, mode, v), s.down);
+    let i11 = values::of_i11(n1, n2, mode, v, p, s.across);
+    let i12 = values::of_i12(n1, n2, mode, v, s.down);
     let i13 = values::of_i13(n1, n2, v, p);
     let i2 = values::of_i2(n1, mode, v);
     Ranges {

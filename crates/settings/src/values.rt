@@ -1,26 +1,21 @@
 // How many values each index has.
 ghost use mathlib.Core.Path.{_≡_};
-ghost use mathlib.Core.Bool.{true, cond, _&&_};
-ghost use Prim.Native.Nat.{_*_, _/_, _<_, _≤_};
-ghost use lib.ListN.{length};
-ghost use Rattle.settings.specs.Settings.{isSetting, ports, sizesOf};
-ghost use Rattle.settings.specs.Ranges.{isMode, isRank, modeTwo, halfLength, kTwo, kThree};
-ghost use Rattle.settings.specs.Ranges.{halvesI11, halvesI12, i13Values, i2Values, rangesOf};
+ghost use mathlib.Core.Bool.{true, _&&_};
+ghost use Prim.Native.Nat.{_≤_};
+ghost use Rattle.settings.specs.Settings.{isSetting, ports, across, down};
+ghost use Rattle.settings.specs.Ranges.{isMode, isRank, modeTwo, halfLength};
+ghost use Rattle.settings.specs.Ranges.{i11Values, i12Values, i13Values, i2Values};
 
-// 1 or 2.
-pub fn is_mode(mode: u32) -> bool
-    ensures { λ t. ⌜ t ≡ isMode mode ⌝ }
+// Mode 1 or 2, and 1 to 8 layers, at most P. A pair that is no setting has no ports, and so no rank.
+pub fn is_ranked(p: u32, mode: u32, v: u32) -> bool
+    ensures { λ t. ⌜ t ≡ (isMode mode && isRank p v) ⌝ }
 {
-    if mode == 1 {
-        return true;
+    if mode == 0 {
+        return false;
     }
-    mode == 2
-}
-
-// 1 to 8 layers, and at most P.
-pub fn is_rank(p: u32, v: u32) -> bool
-    ensures { λ t. ⌜ t ≡ isRank p v ⌝ }
-{
+    if 2 < mode {
+        return false;
+    }
     if v == 0 {
         return false;
     }
@@ -56,51 +51,45 @@ pub fn is_half_length(p: u32, v: u32) -> bool
     16 <= p
 }
 
-// n values, or half of them.
-pub fn halved(half: bool, n: u32) -> u32
-    ensures { λ k. ⌜ k ≡ cond half (n / 2) n ⌝ }
-{
-    if half { n / 2 } else { n }
-}
-
-// Whether i11 has half of its values, on P ports.
-pub fn halves_i11(n1: u32, n2: u32, mode: u32, v: u32, p: u32) -> bool
-    requires { ⌜ p ≡ ports n1 n2 ⌝ }
-    ensures { λ t. ⌜ t ≡ halvesI11 n1 n2 mode v ⌝ }
+// The values of i11, on P ports with w beams across: w, or half of them.
+pub fn of_i11(n1: u32, n2: u32, mode: u32, v: u32, p: u32, w: u32) -> u32
+    requires { ⌜ (p ≡ ports n1 n2) × (w ≡ across n1) ⌝ }
+    ensures { λ n. ⌜ n ≡ i11Values n1 n2 mode v ⌝ }
 {
     if is_mode_two(n1, mode, v) {
-        return true;
+        return w / 2;
     }
     if is_half_length(p, v) {
-        return true;
+        return w / 2;
     }
     if v < 7 {
-        return false;
+        return w;
     }
     if n1 != 4 {
-        return false;
+        return w;
     }
-    n2 == 1
+    if n2 == 1 { w / 2 } else { w }
 }
 
-// Whether i12 has half of its values.
-pub fn halves_i12(n1: u32, n2: u32, mode: u32, v: u32) -> bool
-    ensures { λ t. ⌜ t ≡ halvesI12 n1 n2 mode v ⌝ }
+// The values of i12, with w beams down: w, or half of them.
+pub fn of_i12(n1: u32, n2: u32, mode: u32, v: u32, w: u32) -> u32
+    requires { ⌜ w ≡ down n2 ⌝ }
+    ensures { λ n. ⌜ n ≡ i12Values n1 n2 mode v ⌝ }
 {
     if is_mode_two(n1, mode, v) {
-        return 1 < n2;
+        return if 1 < n2 { w / 2 } else { w };
     }
     if v < 7 {
-        return false;
+        return w;
     }
     if n1 <= 2 {
-        return false;
+        return w;
     }
-    n2 == 2
+    if n2 == 2 { w / 2 } else { w }
 }
 
-// The values of i13, on P ports: as many as rows of k, and four for half-length beams. At v = 2 there are two rows at four
-// ports and else four; at v = 3 and 4 one at four ports, three at eight and four at twelve.
+// The values of i13, on P ports: as many as rows of k, and four for half-length beams. Above eight ports there are four.
+// At four and eight ports there is one for each antenna at v = 2, and one fewer at v = 3 and 4, which leave (0,0) out.
 pub fn of_i13(n1: u32, n2: u32, v: u32, p: u32) -> u32
     requires { ⌜ (isSetting n1 n2 ≡ true) × (1 ≤ v) × (p ≡ ports n1 n2) ⌝ }
     ensures { λ n. ⌜ n ≡ i13Values n1 n2 v ⌝ }
@@ -118,9 +107,9 @@ pub fn of_i13(n1: u32, n2: u32, v: u32, p: u32) -> u32
         return 4;
     }
     if v == 2 {
-        return if p == 4 { 2 } else { 4 };
+        return p / 2;
     }
-    if p == 4 { 1 } else { 3 }
+    p / 2 - 1
 }
 
 // The values of i2.

@@ -1,0 +1,7 @@
+-- What is known of every setting, of the rows of k and of the ranges.
+pub mod Known
+pub mod Rows
+pub mod Ranked
+pub mod Given
+pub mod Counts
+pub mod Unique
