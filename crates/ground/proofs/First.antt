@@ -87,6 +87,12 @@ module _ (test : ℕ → Bool) where
       go false f true g e later = rw f (later e)
       go false f false g e later = later e
 
+  -- a number of which FirstOf tells is that number, so there is no other
+  pub first-only : (ks : List ℕ) (k : ℕ) → FirstOf test ks k → first test ks ≡ k
+  unfolding first
+  first-only ks k f =
+      ap (first test) (f .parts) ∙ none-first (f .before) (k ∷ f .after) (f .none-before) ∙ rw (f .holds)
+
   -- a test of a list holds only where the first is not 0, and the first stands in the list
   pub first-of : (ks : List ℕ) → first test ks ≢ 0 → FirstOf test ks (first test ks)
   unfolding first

@@ -6,3 +6,4 @@ pub mod All
 pub mod First
 pub mod Written
 pub mod Unique
+pub mod Examples

@@ -1,5 +1,5 @@
 -- Exactly orthogonal columns whose differences come in thirds and not in opposites: layers 1 and 2 of setting (3,2)
--- at three layers, i13 = 3 and the rest 0. Assumes nothing.
+-- at three layers, i13 = 3 and the rest 0. And two columns that are not orthogonal: those of neighbouring beams.
 use mathlib.Core.Path.{_≡_, refl}
 use mathlib.Core.Logic.{_⊎_, inl, inr}
 use mathlib.Core.Bool.{Bool, _||_}
@@ -13,6 +13,7 @@ use Rattle.turn.specs.Exact.{count, differences, Orthogonal}
 use Rattle.ground.specs.Lists.{every}
 use Rattle.ground.proofs.Tests.{every-at, or-cases}
 use Rattle.turn.proofs.Orthogonal.{beams-orthogonal}
+use Rattle.turn.proofs.NotZero.{same-counts}
 
 unfoldable pub setting : Setting
 setting = record { n1 = 3; n2 = 2; o1 = 4; o2 = 4 }
@@ -57,3 +58,14 @@ no-opposites e h = elim (or-cases (eqb (count between e) 0) _ (every-at half unp
 pub orthogonal : Orthogonal layer1 layer2
 unfolding layer1 layer2 setting
 orthogonal = beams-orthogonal setting (record { rows = refl; columns = refl }) 0 0 0 0 2 0 (inl (omega arith)) _ _
+
+-- the next beam, which is no whole oversampling step on
+unfoldable pub next : List ℕ
+next = column (0 ∷ 0 ∷ []) (beam setting 1 0)
+
+-- it is not orthogonal to layer 1: four ports have the difference 0, and none has a third of a turn or an opposite
+pub next-not-orthogonal : Orthogonal layer1 next → ⊥
+unfolding layer1 next setting column beam grid step steps product differences difference count
+next-not-orthogonal z =
+    let four : 4 + 0 ≡ 0 + 0 = same-counts (differences layer1 next) z 0 (omega arith) in
+    omega arith

@@ -12,4 +12,5 @@ pub mod Opposites
 pub mod Orthogonal
 pub mod Multiples
 pub mod Cancel
+pub mod NotZero
 pub mod Example

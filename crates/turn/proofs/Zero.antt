@@ -1,22 +1,23 @@
--- A list of phases that some turn only permutes sums to exactly zero. Assumes nothing.
+-- A list of phases that some turn only permutes sums to exactly zero.
 use mathlib.Core.Path.{_≡_, refl, sym, ap, ap₂, _∙_, subst}
 use mathlib.Core.Logic.{_⊎_, inl, inr, _≢_}
 use mathlib.Core.Bool.{Bool, true, false, not, cond, _||_}
 use mathlib.Core.List.{List, [], _∷_, map}
 use Prim.Native.Nat.{ℕ, zero, suc, _+_, _%_, _<_}
-use native.Mathlib.Nat.{mod-mod, mod-lt}
+use native.Mathlib.Nat.{mod-mod, mod-lt, add-zero}
 use native.Mathlib.Decide.{ℕ-discrete}
 use native.Mathlib.Omega.{arith}
 use lib.Dec.{T, eqb, eqb→eq, lit<, T-not}
 use lib.IntN.{ℤ, pos, negℤ, _+ℤ_, _-ℤ_, +ℤ-invr, +ℤ-comm, negℤ-+ℤ, negℤ-negℤ}
 use Rattle.turn.specs.Phase.{turn, half, third, sixth, phase}
+use Rattle.turn.specs.Column.{steps}
 use Rattle.turn.specs.Exact.{count, d, ExactZero}
 use Rattle.ground.proofs.Tests.{or-cases, or-else, eq→eqb, every-at}
 use Rattle.ground.specs.Lists.{every}
 use Rattle.turn.specs.Cancel.{total}
 use Rattle.turn.proofs.Totals.{total-cong, total-map}
 use Rattle.turn.specs.Cancel.{Invariant}
-use Rattle.turn.proofs.Invariant.{invariant-add, invariant-same}
+use Rattle.turn.proofs.Invariant.{invariant-add, invariant-same, invariant-shift, invariant-steps}
 
 -- ---- counts
 
@@ -140,3 +141,19 @@ half-or-third {g} ne p = elim (ℕ-discrete (g % 3) 0) [ yes e ↦ inl (to-half 
 -- a turn by any g that is not a whole turn
 pub exact-zero : {g : ℕ} {xs : List ℕ} → phase g ≢ 0 → Invariant g xs → ExactZero (map phase xs)
 exact-zero ne p = elim (half-or-third ne p) [ inl h ↦ zero-by-half h | inr t ↦ zero-by-third t ]
+
+-- ---- the shortest lists that do
+
+-- two opposite phases
+pub opposite-phases-zero : (e : ℕ) → ExactZero (phase e ∷ phase (e + half) ∷ [])
+unfolding steps
+opposite-phases-zero e =
+    subst (λ (x : ℕ). ExactZero (phase x ∷ phase (e + half) ∷ [])) (add-zero e)
+    (zero-by-half (invariant-shift e (invariant-steps 2 half refl)))
+
+-- three phases a third of a turn apart
+pub third-phases-zero : (e : ℕ) → ExactZero (phase e ∷ phase (e + third) ∷ phase (e + (third + third)) ∷ [])
+unfolding steps
+third-phases-zero e =
+    subst (λ (x : ℕ). ExactZero (phase x ∷ phase (e + third) ∷ phase (e + (third + third)) ∷ [])) (add-zero e)
+    (zero-by-third (invariant-shift e (invariant-steps 3 third refl)))

@@ -8,3 +8,4 @@ pub mod Products
 pub mod Sums
 pub mod CrossSum
 pub mod Powers
+pub mod Examples
