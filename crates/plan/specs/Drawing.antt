@@ -2,13 +2,14 @@
 use mathlib.Core.Path.{_≡_}
 use mathlib.Core.Bool.{Bool, _&&_}
 use mathlib.Core.List.{List, [], _∷_, _++_}
-use Prim.Native.Nat.{ℕ, zero, suc, _+_, _*_, _/_, _%_, _^_}
+use Prim.Native.Nat.{ℕ, zero, suc, _+_, _*_, _/_, _%_, _^_, _<_}
 use lib.Dec.{leb}
 use lib.ListN.{length, drop, getD}
 use Rattle.ground.specs.Cases.{_⇒_∣_}
 use Rattle.turn.specs.Phase.{half}
 use Rattle.turn.specs.Column.{grid, column}
 use Rattle.plan.specs.declared.Drawing.{Drawing}
+use Rattle.plan.specs.Plan.{Plan, layerAt, columnOf}
 
 -- the entries of a block, and of a column
 abbrev pub entries : Drawing → ℕ
@@ -67,3 +68,11 @@ drawable s room =
 pub record Written (s : Drawing) (lent : List ℕ) (done : Bool) (left : List ℕ) : Type 0 where
   pub fits : done ≡ drawable s (length lent)
   pub stands : left ≡ (done ⇒ drawn s (s .v) ++ drop (s .v * height s) lent ∣ lent)
+
+-- the numbers stand for a plan: its sizes, and layer by layer its columns
+pub record Draws (p : Plan) (s : Drawing) : Type 0 where
+  pub v : s .v ≡ p .v
+  pub pairs : 2 * s .pairs ≡ p .blocks
+  pub rows : s .rows ≡ p .block .n1
+  pub columns : s .columns ≡ p .block .n2
+  pub layers : (j : ℕ) → j < p .v → columnAt s (getD (s .codes) j 0) ≡ columnOf p (layerAt p j)

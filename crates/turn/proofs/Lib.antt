@@ -1,6 +1,7 @@
 -- The laws, from the ground up; `Orthogonal` and `Cancel` are what other crates come for.
 pub mod Unique
 pub mod Lists
+pub mod Columns
 pub mod Steps
 pub mod Entries
 pub mod Totals

@@ -30,7 +30,7 @@ left-pos a b e = elim (eq-zero-or-pos a) [
   | inr p ↦ p
 ]
 
-right-pos : (a b : ℕ) → a * b ≡ turn → 0 < b
+pub right-pos : (a b : ℕ) → a * b ≡ turn → 0 < b
 right-pos a b e = left-pos b a (omega arith)
 
 -- where t and r make n, k + t is a multiple of n only if k is r past one

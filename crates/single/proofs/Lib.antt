@@ -1,0 +1,7 @@
+-- Laws of the single-panel codebook.
+pub mod Layers
+pub mod Apart
+pub mod Told
+pub mod Sound
+pub mod Lawful
+pub mod Drawn
