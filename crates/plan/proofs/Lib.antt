@@ -1,0 +1,2 @@
+-- Laws of every codebook.
+pub mod Masked
