@@ -1,2 +1,3 @@
--- What the contract of `admit` cites.
+-- What the contract of `admit` cites, and what a codebook hands over to it.
 pub mod Admitted
+pub mod Asks

@@ -7,7 +7,7 @@ use lib.ListN.{length, drop}
 use Rattle.plan.specs.declared.Record.{Record}
 use Rattle.plan.specs.declared.Drawing.{Drawing}
 use Rattle.plan.specs.declared.Judged.{Judged}
-use Rattle.plan.specs.Answer.{refused, recordOf, bufferOf, Answers, judgedBy}
+use Rattle.plan.specs.Answer.{refused, recordOf, bufferOf, Answers, refusedBy, judgedBy}
 
 -- ---- by a number
 
@@ -48,6 +48,11 @@ module _ {A : Type 0} {k : ℕ} {a : Record} (fresh : a .refusal ≡ 0) {answer 
       )
 
 -- ---- a call that has its report judged
+
+-- a number that is not 0 refuses
+pub refused-judged : (a : Record) (s : Drawing) (k n : ℕ) → k ≢ 0 → k ≡ n → refusedBy k ≡ judgedBy a s n
+refused-judged a s zero n h e = absurd (h refl)
+refused-judged a s (suc k) n h e = ap (judgedBy a s) e
 
 judged-record : (a : Record) (s : Drawing) (k : ℕ) → judgedBy a s k .given ≡ recordOf a k
 judged-record a s zero = refl

@@ -6,3 +6,4 @@ pub mod Matrix
 pub mod Answers
 pub mod Calls
 pub mod Demands
+pub mod Masked

@@ -5,3 +5,8 @@ pub mod Told
 pub mod Sound
 pub mod Lawful
 pub mod Drawn
+pub mod Given
+pub mod Asked
+pub mod Handed
+pub mod Judged
+pub mod Unique

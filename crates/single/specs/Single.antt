@@ -13,6 +13,10 @@ use Rattle.single.specs.Masks.{bitsRead}
 abbrev pub order : List ℕ
 order = 1 ∷ 2 ∷ 3 ∷ 4 ∷ 5 ∷ 6 ∷ 7 ∷ 8 ∷ 9 ∷ 10 ∷ 11 ∷ []
 
+-- those of the indices
+abbrev pub indices : List ℕ
+indices = 6 ∷ 7 ∷ 8 ∷ 9 ∷ []
+
 -- above two ports the mask has a bit for each beam, N2·O2 for each l
 abbrev pub single : Codebook Report
 single = record {

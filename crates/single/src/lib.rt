@@ -5,8 +5,18 @@ use plan::Judged;
 use plan::Record;
 use report::Beams;
 use report::Report;
-use turn::Part;
 use turn::Phase;
+ghost use mathlib.Core.Path.{_≡_};
+ghost use mathlib.Core.List.{[], _∷_};
+ghost use Prim.Native.Nat.{_+_, _*_, _≤_};
+ghost use Rattle.masks.specs.Asks.{Asks};
+ghost use Rattle.plan.specs.Answer.{planned, asked, refusal, judgedBy};
+ghost use Rattle.report.specs.Rules.{InRange};
+ghost use Rattle.report.specs.Beams.{beams, four, said, beamsOf};
+ghost use Rattle.single.specs.Plan.{plan};
+ghost use Rattle.single.specs.Masks.{twoPortBit};
+ghost use Rattle.single.specs.Single.{indices, single};
+ghost use Rattle.single.specs.Drawing.{codesOf, stepOf, drawingOf};
 
 // The codes of one to eight layers of whole beams: 512 times the place of a beam, 0 to 3 for B, B', B'', B'''; 256 more where
 // f is added to the second polarisation, and 2 more where half a turn is.
@@ -58,13 +68,19 @@ fn codes_of(v: u32) -> [u16; 8]
     EIGHT
 }
 
-// The steps of a beam, x + 256·y, where beam (1,0) has the step px and (0,1) the step py.
-fn step_of(l: u32, m: u32, px: u32, py: u32) -> u32 {
+// The steps of the beam (l,m), x + 256·y, where (1,0) has the step px and (0,1) the step py.
+fn step_of(l: u32, m: u32, px: u32, py: u32) -> u32
+    requires { ⌜ (l ≤ 255) × (m ≤ 255) × (px ≤ 255) × (py ≤ 255) ⌝ }
+    ensures { λ s. ⌜ s ≡ l * px + 256 * (m * py) ⌝ }
+{
     l * px + 256 * (m * py)
 }
 
-// The steps of the beams. Most reports have one or two.
-fn steps_of(b: Beams) -> [u32; 4] {
+// The steps of the beams. Many reports have one.
+fn steps_of(r: Report, b: Beams) -> [u32; 4]
+    requires { ⌜ InRange r × (b ≡ said r 0) ⌝ }
+    ensures { λ s. ⌜ s ≡ four (stepOf r) (beams r) ⌝ }
+{
     let px = turn::TURN as u32 / b.across;
     let py = turn::TURN as u32 / b.down;
     let l = b.l;
@@ -73,18 +89,19 @@ fn steps_of(b: Beams) -> [u32; 4] {
     if b.count == 1 {
         return [first, 0, 0, 0];
     }
-    [
-        first,
-        step_of(l[1], m[1], px, py),
-        step_of(l[2], m[2], px, py),
-        step_of(l[3], m[3], px, py),
-    ]
+    let second = step_of(l[1], m[1], px, py);
+    let third = step_of(l[2], m[2], px, py);
+    let fourth = step_of(l[3], m[3], px, py);
+    [first, second, third, fourth]
 }
 
 // What is to be written of a report.
-fn drawing_of(r: Report, b: Beams) -> Drawing {
+fn drawing_of(r: Report, b: Beams) -> Drawing
+    requires { ⌜ InRange r × (b ≡ said r 0) ⌝ }
+    ensures { λ s. ⌜ s ≡ drawingOf r ⌝ }
+{
     let f = Phase::quarters(b.n);
-    let steps = steps_of(b);
+    let steps = steps_of(r, b);
     if b.half {
         let t = Phase::eighths(r.i13);
         let both = f.add(t);
@@ -98,6 +115,7 @@ fn drawing_of(r: Report, b: Beams) -> Drawing {
             codes: HALVES,
         };
     }
+    let codes = codes_of(r.v);
     Drawing {
         v: r.v,
         pairs: 1,
@@ -105,16 +123,23 @@ fn drawing_of(r: Report, b: Beams) -> Drawing {
         columns: r.n2,
         steps: steps,
         co: [0, f.parts, 0, 0, 0, 0, 0, 0],
-        codes: codes_of(r.v),
+        codes: codes,
     }
 }
 
-fn two_port_bit(r: Report) -> u32 {
+// The bit of the two-port codebook.
+fn two_port_bit(r: Report) -> u32
+    requires { ⌜ r .i2 ≤ 3 ⌝ }
+    ensures { λ k. ⌜ k ≡ twoPortBit r ⌝ }
+{
     if r.v == 1 { r.i2 } else { 4 + r.i2 }
 }
 
 // What the report needs of the masks and the buffer. Two ports have one bit.
-fn needs_of(r: Report, b: Beams) -> Needs {
+fn needs_of(r: Report, b: Beams) -> Needs
+    requires { ⌜ b ≡ beamsOf r ⌝ }
+    ensures { λ x. ⌜ Asks single r indices x ⌝ }
+{
     if b.refusal != 0 {
         return Needs {
             refusal: b.refusal,
@@ -129,6 +154,7 @@ fn needs_of(r: Report, b: Beams) -> Needs {
     }
     let entries = r.v * b.ports;
     if r.n1 == 1 {
+        let bit = two_port_bit(r);
         return Needs {
             refusal: 0,
             bytes: b.bytes,
@@ -137,7 +163,7 @@ fn needs_of(r: Report, b: Beams) -> Needs {
             count: 1,
             width: 0,
             l: [0; 4],
-            m: [two_port_bit(r), 0, 0, 0],
+            m: [bit, 0, 0, 0],
         };
     }
     let l = b.l;
@@ -154,13 +180,18 @@ fn needs_of(r: Report, b: Beams) -> Needs {
     }
 }
 
-pub fn judge(r: Report, mask: &[u8], ranks: u8, room: usize) -> Judged {
+// Judges a report by the refusals 1 to 11: the first that applies is given, and otherwise what is to be written. `room` is the
+// number of entries for which the lent buffer has room.
+pub fn judge(r: Report, mask: &[u8], ranks: u8, room: usize) -> Judged
+    ensures { λ c. ⌜ c ≡ judgedBy (planned (plan r)) (drawingOf r) (refusal single (asked r (now (mask .entry)) ranks room)) ⌝ }
+{
     let b = report::beams_of(r);
     let x = needs_of(r, b);
     let k = masks::admit(x, mask, ranks, room);
     if k != 0 {
         return plan::refuse(k);
     }
+    let drawing = drawing_of(r, b);
     Judged {
         given: Record {
             refusal: 0,
@@ -168,6 +199,6 @@ pub fn judge(r: Report, mask: &[u8], ranks: u8, room: usize) -> Judged {
             layers: r.v,
             scale: x.entries,
         },
-        drawing: drawing_of(r, b),
+        drawing: drawing,
     }
 }

@@ -1,0 +1,55 @@
+-- The bits of up to four beams, one after the other: whether one of them is zero.
+use mathlib.Core.Path.{_≡_, refl, sym}
+use mathlib.Core.Bool.{Bool, false, _||_}
+use mathlib.Core.List.{List}
+use Prim.Native.Nat.{ℕ, zero, suc, _+_, _*_, _≤_}
+use native.Mathlib.Nat.{le-trans, le-of-eq, min-le-left}
+use native.Mathlib.Omega.{arith}
+use lib.ListN.{length, getD, drop, length-take, drop-of-length-le}
+use lib.Seq.{take-nil}
+use Rattle.ground.specs.Lists.{some}
+use Rattle.ground.proofs.Booleans.{or-nothing}
+use Rattle.plan.specs.Masks.{isZero, barred}
+use Rattle.masks.specs.Admitted.{bitsOf}
+
+module _ (mask : List ℕ) (width : ℕ) (l m : List ℕ) where
+  -- the bit of beam i is zero
+  abbrev pub zeroAt : ℕ → Bool
+  zeroAt i = isZero mask (width * getD l i 0 + getD m i 0)
+
+  -- one of the bits from that of beam i on is zero
+  abbrev pub zeroFrom : ℕ → ℕ → Bool
+  zeroFrom i n = barred mask (drop i (bitsOf n width l m))
+
+  pub from-first : (n : ℕ) → 1 ≤ n → zeroFrom 0 n ≡ (zeroAt 0 || zeroFrom 1 n)
+  unfolding barred some bitsOf
+  from-first zero h = absurd (omega arith)
+  from-first (suc n) h = refl
+
+  pub from-second : (n : ℕ) → 2 ≤ n → zeroFrom 1 n ≡ (zeroAt 1 || zeroFrom 2 n)
+  unfolding barred some bitsOf
+  from-second zero h = absurd (omega arith)
+  from-second (suc zero) h = absurd (omega arith)
+  from-second (suc (suc n)) h = refl
+
+  pub from-third : (n : ℕ) → 3 ≤ n → zeroFrom 2 n ≡ (zeroAt 2 || zeroFrom 3 n)
+  unfolding barred some bitsOf
+  from-third zero h = absurd (omega arith)
+  from-third (suc zero) h = absurd (omega arith)
+  from-third (suc (suc zero)) h = absurd (omega arith)
+  from-third (suc (suc (suc n))) h = refl
+
+  pub from-fourth : (n : ℕ) → 4 ≤ n → zeroFrom 3 n ≡ zeroAt 3
+  unfolding barred some bitsOf
+  from-fourth zero h = absurd (omega arith)
+  from-fourth (suc zero) h = absurd (omega arith)
+  from-fourth (suc (suc zero)) h = absurd (omega arith)
+  from-fourth (suc (suc (suc zero))) h = absurd (omega arith)
+  from-fourth (suc (suc (suc (suc n)))) h = rw (take-nil {A = ℕ} n) (sym (or-nothing (zeroAt 3)))
+
+  -- past the beams there is none
+  pub none-past : (i n : ℕ) → n ≤ i → zeroFrom i n ≡ false
+  unfolding barred some bitsOf
+  none-past i n h =
+      let short : length (bitsOf n width l m) ≤ i = le-trans (le-trans (le-of-eq (length-take n _)) (min-le-left n _)) h in
+      rw (drop-of-length-le (bitsOf n width l m) short)

@@ -1,0 +1,6 @@
+-- The bits of beams, the number that is given, and what it is to any codebook.
+pub mod Bits
+pub mod Given
+pub mod Numbers
+pub mod Refused
+pub mod Unique

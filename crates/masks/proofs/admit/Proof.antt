@@ -1,0 +1,116 @@
+-- `admit` meets its contract: each return gives the number of its case.
+use mathlib.Core.Path.{_≡_, sym, _∙_}
+use lib.Dec.{ltb}
+use denote.Ref.{now}
+use borrow.Author.Needs.{needs}
+use borrow.Author.Tests.{lt-ltb, le-ltb}
+use Rattle.ground.specs.Cases.{_⇒_∣_}
+use Rattle.plan.specs.Masks.{barred}
+use Rattle.masks.specs.Admitted.{bitsOf, admitted}
+use Rattle.masks.proofs.Given.{gives-one, gives-two, gives-three, gives-four, gives-five, gives-own, gives-last}
+use Rattle.masks.proofs.admit.Statement.{statement}
+use Rattle.masks.proofs.admit.Tie as tie
+
+abbrev start : tie.Else6 → tie.Start
+start c = c .before .before .before .before .before .before .before .before .before .before .before .before .before
+
+-- none of the codebook's own refusals applies, nor 3 or 5
+past-six : (c : tie.Else6)
+    → let a = start c .args in
+    let x = a .x in
+    admitted x (now (a .mask)) (a .ranks) (a .room)
+    ≡ (barred (now (a .mask)) (bitsOf (x .count) (x .width) (x .l) (x .m)) ⇒ 10 ∣ ltb (a .room) (x .entries) ⇒ 11 ∣ 0)
+past-six c =
+    let e5 = c .before .before in
+    let e4 = e5 .before .before in
+    let e3 = e4 .before .before in
+    let e2 = e3 .before .before in
+    let e1 = e2 .before .before in
+    gives-last _ _ _ _ (e1 .if1 .left) (e2 .if2 .left) (e3 .if3 .left) (e4 .if4 .left)
+    (sym (e5 .before .rank-barred .ensures) ∙ e5 .if5 .left) (c .if6 .left)
+
+-- nor 10
+past-seven : (c : tie.Else7)
+    → let a = start (c .before .before .before .before) .args in
+    admitted (a .x) (now (a .mask)) (a .ranks) (a .room) ≡ (ltb (a .room) (a .x .entries) ⇒ 11 ∣ 0)
+past-seven c =
+    past-six (c .before .before .before .before) ∙ rw (sym (c .before .some-zero .ensures) ∙ c .if7 .left)
+
+returns : tie.Need-returns
+returns c = sym (gives-one _ _ _ _ (c .if1 .taken))
+
+returns-2 : tie.Need-returns-2
+returns-2 c = sym (gives-two _ _ _ _ (c .if2 .taken))
+
+cast-if3 : tie.Need-cast-if3
+cast-if3 c = search needs
+
+returns-3 : tie.Need-returns-3
+returns-3 c =
+    let e2 = c .before .before in
+    let e1 = e2 .before .before in
+    sym (gives-three _ _ _ _ (e1 .if1 .left) (e2 .if2 .left) (c .if3 .taken))
+
+returns-4 : tie.Need-returns-4
+returns-4 c =
+    let e3 = c .before .before in
+    let e2 = e3 .before .before in
+    let e1 = e2 .before .before in
+    sym (gives-four _ _ _ _ (e1 .if1 .left) (e2 .if2 .left) (e3 .if3 .left) (c .if4 .taken))
+
+rank-barred-requires : tie.Need-rank-barred-requires
+rank-barred-requires c κs = search needs
+
+returns-5 : tie.Need-returns-5
+returns-5 c =
+    let e4 = c .before .before in
+    let e3 = e4 .before .before in
+    let e2 = e3 .before .before in
+    let e1 = e2 .before .before in
+    sym (gives-five _ _ _ _ (e1 .if1 .left) (e2 .if2 .left) (e3 .if3 .left) (e4 .if4 .left)
+    (sym (c .before .rank-barred .ensures) ∙ c .if5 .taken))
+
+returns-6 : tie.Need-returns-6
+returns-6 c =
+    let e5 = c .before .before in
+    let e4 = e5 .before .before in
+    let e3 = e4 .before .before in
+    let e2 = e3 .before .before in
+    let e1 = e2 .before .before in
+    sym
+    (gives-own _ _ _ _ (e1 .if1 .left) (e2 .if2 .left) (e3 .if3 .left) (e4 .if4 .left)
+    (sym (e5 .before .rank-barred .ensures) ∙ e5 .if5 .left) (c .if6 .taken))
+
+some-zero-requires : tie.Need-some-zero-requires
+some-zero-requires c κs = search needs
+
+returns-7 : tie.Need-returns-7
+returns-7 c =
+    sym (past-six (c .before .before .before .before) ∙ rw (sym (c .before .some-zero .ensures) ∙ c .if7 .taken))
+
+cast-if8 : tie.Need-cast-if8
+cast-if8 c = search needs
+
+returns-8 : tie.Need-returns-8
+returns-8 c = sym (past-seven (c .before .before) ∙ rw (lt-ltb _ _ (c .if8 .taken)))
+
+returns-9 : tie.Need-returns-9
+returns-9 c = sym (past-seven (c .before .before) ∙ rw (le-ltb _ _ (c .if8 .left)))
+
+pub admit-spec : {M : Type 1} → statement M
+admit-spec =
+    tie.close
+    (tie.spec
+    returns
+    returns-2
+    cast-if3
+    returns-3
+    returns-4
+    rank-barred-requires
+    returns-5
+    returns-6
+    some-zero-requires
+    returns-7
+    cast-if8
+    returns-8
+    returns-9)

@@ -1,0 +1,103 @@
+-- `later_zero` meets its contract: each test takes one bit off those that are left.
+use mathlib.Core.Path.{_≡_, sym, _∙_}
+use Prim.Native.Nat.{_≤_}
+use native.Mathlib.Nat.{le-of-eq}
+use native.Mathlib.Omega.{arith}
+use denote.Ref.{now}
+use borrow.Author.Needs.{needs}
+use Rattle.masks.proofs.Bits.{zeroFrom, from-second, from-third, from-fourth, none-past}
+use Rattle.masks.proofs.later_zero.Statement.{statement}
+use Rattle.masks.proofs.later_zero.Tie as tie
+
+-- the second bit is not zero
+past-second : (c : tie.Else1)
+    → let a = c .before .before .before .args in
+    let from = zeroFrom (now (a .mask)) (a .width) (a .t4) (a .t5) in
+    from 1 (a .n) ≡ from 2 (a .n)
+past-second c =
+    let s = c .before .before .before in
+    rw (from-second _ _ _ _ _ (s .pre), sym (c .before .is-zero .ensures) ∙ c .if1 .left)
+
+-- there are three bits or more
+three : (c : tie.Else2) → 3 ≤ c .before .before .before .before .args .n
+three c = let s = c .before .before .before .before in omega (arith, s .pre, c .if2 .left)
+
+-- the third is not zero either
+past-third : (c : tie.Else3)
+    → let a = c .before .before .before .before .before .before .args in
+    let from = zeroFrom (now (a .mask)) (a .width) (a .t4) (a .t5) in
+    from 1 (a .n) ≡ from 3 (a .n)
+past-third c =
+    let e = c .before .before in
+    past-second (e .before)
+    ∙ rw (from-third _ _ _ _ _ (three e), sym (c .before .is-zero2 .ensures) ∙ c .if3 .left)
+
+array-read-is-zero : tie.Need-array-read-is-zero
+array-read-is-zero c = search needs
+
+array-read-is-zero-2 : tie.Need-array-read-is-zero-2
+array-read-is-zero-2 c = search needs
+
+is-zero-requires : tie.Need-is-zero-requires
+is-zero-requires c κs = search needs
+
+returns : tie.Need-returns
+returns c =
+    let s = c .before .before .before in
+    rw (from-second _ _ _ _ _ (s .pre), sym (c .before .is-zero .ensures) ∙ c .if1 .taken)
+
+returns-2 : tie.Need-returns-2
+returns-2 c = sym (past-second (c .before) ∙ none-past _ _ _ _ 2 _ (le-of-eq (c .if2 .taken)))
+
+array-read-is-zero-3 : tie.Need-array-read-is-zero-3
+array-read-is-zero-3 c = search needs
+
+array-read-is-zero-4 : tie.Need-array-read-is-zero-4
+array-read-is-zero-4 c = search needs
+
+is-zero-requires-2 : tie.Need-is-zero-requires-2
+is-zero-requires-2 c κs = search needs
+
+returns-3 : tie.Need-returns-3
+returns-3 c =
+    let e = c .before .before in
+    sym
+    (past-second (e .before)
+    ∙ rw (from-third _ _ _ _ _ (three e), sym (c .before .is-zero2 .ensures) ∙ c .if3 .taken))
+
+returns-4 : tie.Need-returns-4
+returns-4 c = sym (past-third (c .before) ∙ none-past _ _ _ _ 3 _ (le-of-eq (c .if4 .taken)))
+
+array-read-is-zero-5 : tie.Need-array-read-is-zero-5
+array-read-is-zero-5 c = search needs
+
+array-read-is-zero-6 : tie.Need-array-read-is-zero-6
+array-read-is-zero-6 c = search needs
+
+is-zero-requires-3 : tie.Need-is-zero-requires-3
+is-zero-requires-3 c κs = search needs
+
+returns-5 : tie.Need-returns-5
+returns-5 c =
+    let e = c .before .before in
+    let enough = three (e .before .before) in
+    c .is-zero3 .ensures ∙ sym (past-third e ∙ from-fourth _ _ _ _ _ (omega (arith, enough, c .before .if4 .left)))
+
+pub later-zero-spec : {M : Type 1} → statement M
+later-zero-spec =
+    tie.close
+    (tie.spec
+    array-read-is-zero
+    array-read-is-zero-2
+    is-zero-requires
+    returns
+    returns-2
+    array-read-is-zero-3
+    array-read-is-zero-4
+    is-zero-requires-2
+    returns-3
+    returns-4
+    array-read-is-zero-5
+    array-read-is-zero-6
+    is-zero-requires-3
+    returns-5)

@@ -1,0 +1,55 @@
+-- What a mask and the room do to a refusal, for any codebook.
+use mathlib.Core.Path.{_≡_, refl, ap, ap₂}
+use mathlib.Core.Bool.{Bool, true, false, cond, _||_}
+use mathlib.Core.List.{List, [], _∷_, map}
+use Prim.Native.Nat.{ℕ, _*_, _≤_}
+use native.Mathlib.Omega.{arith}
+use lib.Dec.{T, eqb, ltb}
+use lib.ListN.{length, drop, getD}
+use borrow.Author.Tests.{le-ltb, ltb-false}
+use Rattle.ground.specs.Lists.{some}
+use Rattle.ground.specs.First.{numbered}
+use Rattle.ground.proofs.First.{first-none, none-zero, first-cong}
+use Rattle.plan.specs.Masks.{bit, isZero, barred}
+use Rattle.plan.specs.Answer.{asked, Codebook, test, refusal}
+
+-- the heads and the tails of two lists that are one
+head-same : {x y : ℕ} {xs ys : List ℕ} → _≡_ {A = List ℕ} (x ∷ xs) (y ∷ ys) → x ≡ y
+head-same {x} e = ap (λ (zs : List ℕ). getD zs 0 x) e
+
+tail-same : {x y : ℕ} {xs ys : List ℕ} → _≡_ {A = List ℕ} (x ∷ xs) (y ∷ ys) → xs ≡ ys
+tail-same e = ap (λ (zs : List ℕ). drop 1 zs) e
+
+-- masks that agree on the bits that are read bar alike
+barred-same : (mask mask′ ks : List ℕ) → map (bit mask) ks ≡ map (bit mask′) ks → barred mask ks ≡ barred mask′ ks
+unfolding barred some isZero
+barred-same mask mask′ [] e = refl
+barred-same mask mask′ (k ∷ ks) e =
+    ap₂ (λ (n : ℕ) (b : Bool). eqb n 0 || b) (head-same e) (barred-same mask mask′ ks (tail-same e))
+
+module _ {R : Type 0} (b : Codebook R) (r : R) where
+  -- a refusal depends on the mask by its length and the bits that the report reads alone
+  pub by-bits-read : (mask mask′ : List ℕ) (ranks room : ℕ) → length mask ≡ length mask′
+      → map (bit mask) (b .bitsRead r) ≡ map (bit mask′) (b .bitsRead r)
+      → refusal b (asked r mask ranks room) ≡ refusal b (asked r mask′ ranks room)
+  unfolding refusal test
+  by-bits-read mask mask′ ranks room l e =
+      first-cong _ _ (λ k. rw (l, barred-same mask mask′ (b .bitsRead r) e)) (b .order)
+
+  -- more room refuses nothing that less accepts
+  pub more-room : T (numbered (b .order)) → (mask : List ℕ) (ranks room room′ : ℕ) → room ≤ room′
+      → refusal b (asked r mask ranks room) ≡ 0 → refusal b (asked r mask ranks room′) ≡ 0
+  unfolding refusal test
+  more-room t mask ranks room room′ h e =
+      let n = first-none (test b (asked r mask ranks room)) (b .order) t e in
+      let needed = b .plan r .v * b .plan r .ports in
+      let fits : ltb room needed ≡ false → ltb room′ needed ≡ false =
+      λ f. let g = ltb-false room needed f in le-ltb room′ needed (omega arith) in
+      none-zero (test b (asked r mask ranks room′)) (b .order)
+      (record { at = λ k a. by-room (eqb k 10) (eqb k 11) _ _ _ _ fits (n .at k a) })
+    where
+      by-room : (a c z x y w : Bool) → (x ≡ false → y ≡ false) → cond a z (cond c x w) ≡ false
+          → cond a z (cond c y w) ≡ false
+      by-room true c z x y w h e = e
+      by-room false true z x y w h e = h e
+      by-room false false z x y w h e = e
