@@ -1,8 +1,8 @@
 -- Each function that C calls has one outcome on every input: any two that its contract admits are equal, the record and
--- every entry of the buffer. Assumes nothing.
+-- every entry of the buffer.
 use denote.Ref.{now}
-use Rattle.turn.proofs.Unique.{UniqueLeft}
-use Rattle.precoder.proofs.Answers.{one-answer}
+use Rattle.ground.specs.Unique.{UniqueLeft}
+use Rattle.plan.proofs.Answers.{one-answer}
 use Rattle.capi.proofs.aspenflick_phases.Reads as phases
 use Rattle.capi.proofs.aspenflick_weights.Reads as weights
 

@@ -28,19 +28,20 @@
 //     11   `out` is too short: v·P bytes are needed, or 2·v·P numbers for weights
 //
 // An index that the rank or the setting has no use for must be 0: its range is 0 alone.
-ghost use Rattle.precoder.specs.Answer.{Phases, Weights};
+ghost use Rattle.plan.specs.Answer.{Phases, Weights};
+ghost use Rattle.single.specs.Single.{single};
 
 // Writes the phases of a report's precoder, each 0 to 191 in 1/192 turns: layer after layer, each of P entries, the first
 // polarisation first. Entries past the v·P of the answer stay as lent. (2,1) with mode 1, v = 1, i11 = 1, i2 = 1 and the
 // rest 0 gives 0 24 48 72.
 #[no_mangle]
 pub extern "C" fn aspenflick_phases(
-    r: codebook::Report,
+    r: report::Report,
     beams: &[u8],
     ranks: u8,
     out: &mut [u8],
-) -> precoder::Record
-    ensures { λ a. ⌜ Phases r (now (beams .entry)) ranks (now (out .entry)) a (now (out .exit)) ⌝ }
+) -> plan::Record
+    ensures { λ a. ⌜ Phases single r (now (beams .entry)) ranks (now (out .entry)) a (now (out .exit)) ⌝ }
 {
     precoder::phases(r, beams, ranks, out)
 }
@@ -51,12 +52,12 @@ pub extern "C" fn aspenflick_phases(
 // 0 16384 -11585 11585.
 #[no_mangle]
 pub extern "C" fn aspenflick_weights(
-    r: codebook::Report,
+    r: report::Report,
     beams: &[u8],
     ranks: u8,
     out: &mut [i16],
-) -> precoder::Record
-    ensures { λ a. ⌜ Weights r (now (beams .entry)) ranks (now (out .entry)) a (now (out .exit)) ⌝ }
+) -> plan::Record
+    ensures { λ a. ⌜ Weights single r (now (beams .entry)) ranks (now (out .entry)) a (now (out .exit)) ⌝ }
 {
     precoder::weights(r, beams, ranks, out)
 }

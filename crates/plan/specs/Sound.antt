@@ -33,6 +33,7 @@ pub record Sound (p : Plan) : Type 0 where
   pub few : p .ports ≤ 32
   pub narrow : p .block .n2 ≤ 4
   pub even : p .blocks % 2 ≡ 0
+  pub two : 2 ≤ p .blocks
   pub panels : p .blocks ≤ 8
   pub many : length (p .layers) ≡ p .v
   pub some : 1 ≤ p .v

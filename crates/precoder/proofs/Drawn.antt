@@ -1,78 +1,70 @@
--- Where a cursor is in a grid, and what it then holds. Assumes nothing.
+-- What the writer leaves in a buffer of its own: the layers in front, phases all, copied or looked up from there.
 use mathlib.Core.Path.{_≡_, refl, sym, ap, _∙_}
-use mathlib.Core.Bool.{Bool, true, false, cond}
-use mathlib.Core.List.{map}
-use Prim.Native.Nat.{ℕ, _+_, _-_, _*_, _<_, _≤_}
-use native.Mathlib.Nat.{lt-of-mul-lt-mul-right}
+use mathlib.Core.Bool.{Bool, true, cond, _&&_}
+use mathlib.Core.List.{List, [], _∷_, _++_, map}
+use Prim.Native.Nat.{ℕ, zero, suc, _+_, _*_, _%_, _<_, _≤_}
 use native.Mathlib.Omega.{arith}
-use lib.ListN.{getD, List·getD-map}
-use lib.Dec.{eqb}
-use borrow.Author.Tests.{eqb-true, eqb-false}
+use lib.Dec.{leb}
+use lib.IntN.{ℤ}
+use lib.ListN.{length, take, drop, getD, length-append, List·getD-map}
+use lib.Seq.{take-at}
+use borrow.Author.Tests.{le-leb}
+use Rattle.ground.specs.Copied.{Copied}
 use Rattle.turn.specs.Phase.{turn, phase}
-use Rattle.turn.specs.Column.{grid}
-use Rattle.turn.proofs.Entries.{grid-entry}
-use Rattle.precoder.specs.declared.fill.Cursor.{Cursor}
-use Rattle.precoder.specs.Layer.{after}
+use Rattle.turn.specs.Column.{product, column}
+use Rattle.weight.specs.Table.{weight, numbers}
+use Rattle.plan.specs.declared.Drawing.{Drawing}
+use Rattle.plan.specs.Drawing.{height, columnAt, drawn, drawable, Written}
+use Rattle.writer.proofs.Drawn.{length-drawn}
+use Rattle.precoder.specs.Lookup.{Spaced}
 
--- the cursor of entry i, which is entry b of row a, in rows of w entries with the steps s and u
-pub record At (w s u i : ℕ) (c : Cursor) : Type 0 where
-  pub a : ℕ
-  pub b : ℕ
-  pub entry : i ≡ a * w + b
-  pub left : c .left + b ≡ w
-  pub some : 1 ≤ c .left
-  pub start : c .start ≡ phase (a * s)
-  pub next : c .next ≡ phase (a * s + b * u)
+-- ---- phases
 
-pub at-first : (w s u : ℕ) → 1 ≤ w → At w s u 0 record { left = w; start = 0; next = 0 }
-at-first w s u h = record {
-  a = 0;
-  b = 0;
-  entry = omega arith;
-  left = omega arith;
-  some = h;
-  start = omega arith;
-  next = omega arith;
-}
+below-append : (xs ys : List ℕ) → ((i : ℕ) → getD xs i 0 < turn) → ((i : ℕ) → getD ys i 0 < turn)
+    → (i : ℕ) → getD (xs ++ ys) i 0 < turn
+below-append [] ys p q i = q i
+below-append (x ∷ xs) ys p q zero = p 0
+below-append (x ∷ xs) ys p q (suc i) = below-append xs ys (λ j. p (suc j)) q i
 
-module _ (w s u i : ℕ) (c : Cursor) (h : At w s u i c) where
-  -- one entry on, in the same row or in the next
-  pub at-next : 1 ≤ w → At w s u (i + 1) (after w s u c)
-  unfolding after
-  at-next k = by-left (eqb (c .left) 1) refl
-    where
-      by-left : (t : Bool) → eqb (c .left) 1 ≡ t
-          → At w s u (i + 1) (cond t
-          record { left = w; start = phase (c .start + s); next = phase (c .start + s) }
-          record { left = c .left - 1; start = c .start; next = phase (c .next + u) })
-      by-left true e = record {
-        a = h .a + 1;
-        b = 0;
-        entry = omega (arith, h .entry, h .left, eqb-true (c .left) 1 e);
-        left = omega arith;
-        some = k;
-        start = omega (arith, h .start);
-        next = omega (arith, h .start);
-      }
-      by-left false e = record {
-        a = h .a;
-        b = h .b + 1;
-        entry = omega (arith, h .entry);
-        left = omega (arith, h .left, h .some);
-        some = omega (arith, h .some, eqb-false (c .left) 1 e);
-        start = h .start;
-        next = omega (arith, h .next);
-      }
+column-below : (xs ys : List ℕ) (i : ℕ) → getD (column xs ys) i 0 < turn
+unfolding column
+column-below xs ys i = rw (List·getD-map phase (product xs ys) i 0) (omega arith)
 
-  pub at-below : (c .start < turn) × (c .next < turn)
-  at-below = (omega (arith, h .start), omega (arith, h .next))
+pub drawn-below : (s : Drawing) (n i : ℕ) → getD (drawn s n) i 0 < turn
+unfolding drawn columnAt
+drawn-below s zero i = omega arith
+drawn-below s (suc n) i =
+    below-append (drawn s n) (columnAt s (getD (s .codes) n 0)) (drawn-below s n) (column-below _ _) i
 
-  -- it holds the grid's phase there
-  pub at-phase : (n : ℕ) → i < n * w → c .next ≡ getD (map phase (grid n s w u)) i 0
-  at-phase n k =
-      let row : h .a < n = lt-of-mul-lt-mul-right w (omega (arith, h .entry, k)) in
-      let column : h .b < w = omega (arith, h .left, h .some) in
-      h .next
-      ∙ ap phase (sym (grid-entry n s w u (h .a) (h .b) row column))
-      ∙ ap (λ (j : ℕ). phase (getD (grid n s w u) j 0)) (sym (h .entry))
-      ∙ sym (List·getD-map phase (grid n s w u) i 0)
+-- ---- a buffer that the writer was lent
+
+module _ (s : Drawing) {n : ℕ} {lent left : List ℕ} {t : Bool} (w : Written s lent t left) (e : n ≡ s .v * height s)
+    (fits : drawable s (length lent) ≡ true) where
+  stands : left ≡ drawn s (s .v) ++ drop (s .v * height s) lent
+  stands = w .stands ∙ ap (λ (b : Bool). cond b (drawn s (s .v) ++ drop (s .v * height s) lent) lent) (w .fits ∙ fits)
+
+  long : length (drawn s (s .v)) ≡ n
+  long = length-drawn s (s .v) ∙ sym e
+
+  -- the layers stand in front
+  pub front : take n left ≡ drawn s (s .v)
+  front = ap (take n) stands ∙ take-at (drawn s (s .v)) (drop (s .v * height s) lent) n long
+
+  pub enough : n ≤ length left
+  enough = omega (arith, ap length stands ∙ length-append (drawn s (s .v)) (drop (s .v * height s) lent), long)
+
+  -- copied
+  pub copied : {out now-out : List ℕ} {d : Bool} → n ≤ length out → Copied left n out d now-out
+      → now-out ≡ drawn s (s .v) ++ drop n out
+  copied {out} h c =
+      let both : (leb n (length left) && leb n (length out)) ≡ true = rw (le-leb n (length left) enough, le-leb n (length out) h) in
+      let done = c .fits ∙ both in
+      c .stands ∙ ap (λ (b : Bool). cond b (take n left ++ drop n out) out) done ∙ ap (λ (xs : List ℕ). xs ++ drop n out) front
+
+  -- or looked up
+  pub looked-up : {out : List ℤ} (old : List ℤ) → out ≡ numbers (map weight (take n left)) ++ drop (2 * n) old
+      → out ≡ numbers (map weight (drawn s (s .v))) ++ drop (2 * n) old
+  looked-up old f = f ∙ ap (λ (xs : List ℕ). numbers (map weight xs) ++ drop (2 * n) old) front
+
+  pub front-spaced : {apart : ℕ} → ((i : ℕ) → i < n → getD (drawn s (s .v)) i 0 % apart ≡ 0) → Spaced apart (take n left)
+  front-spaced each = rw front (record { below = λ i h. drawn-below s (s .v) i; each = λ i h. each i (omega (arith, long)) })

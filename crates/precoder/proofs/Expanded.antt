@@ -1,31 +1,19 @@
--- The weights of phases, as they are stored over a lent list, two numbers each; and the phases of a report's matrix, from
--- which its weights are made. Assumes nothing.
-use mathlib.Core.Path.{_≡_, refl, sym, ap, _∙_}
-use mathlib.Core.Bool.{Bool, true, false, cond}
-use mathlib.Core.List.{List, [], _∷_, _++_, map}
+-- The weights of phases, looked up in a table and stored over a lent list, two numbers each.
+use mathlib.Core.Path.{_≡_, sym, ap, _∙_}
+use mathlib.Core.List.{List, _++_, map}
 use Prim.Native.Nat.{ℕ, _+_, _*_, _/_, _%_, _<_, _≤_}
-use native.Mathlib.Nat.{le-trans, mul-le-mul-right, div-lt-iff-lt-mul, div-mul-cancel, dvd-of-mod-eq-zero, le-of-dvd}
+use native.Mathlib.Nat.{div-lt-iff-lt-mul, div-mul-cancel, dvd-of-mod-eq-zero}
 use native.Mathlib.Omega.{arith}
 use lib.IntN.{ℤ, pos}
 use lib.ListN.{length, take, drop, set, getD, length-map, List·getD-map}
 use lib.Seq.{length-take-le, getD-take}
+use Rattle.ground.proofs.Written.{stored}
 use Rattle.turn.specs.Phase.{turn}
 use Rattle.turn.proofs.Steps.{left-pos}
-use Rattle.turn.proofs.Multiples.{Multiples, multiples-at}
 use Rattle.weight.specs.declared.Weight.{Weight}
 use Rattle.weight.specs.Table.{weight, numbers}
 use Rattle.weight.proofs.Pairs.{length-numbers, numbers-x, numbers-y, length-sampled, sampled-x, sampled-y}
-use Rattle.codebook.specs.declared.Report.{Report}
-use Rattle.codebook.specs.Columns.{halfLength}
-use Rattle.codebook.specs.Matrix.{layers, join, rows, block, columnOf, matrix}
-use Rattle.codebook.specs.Refusals.{InRange}
-use Rattle.codebook.proofs.Known.{ports-few}
-use Rattle.codebook.proofs.Layers.{halved, length-matrix}
-use Rattle.precoder.specs.Answer.{P, weightsOf}
-use Rattle.precoder.specs.Layer.{Reduced}
 use Rattle.precoder.specs.Lookup.{Sampled, Spaced}
-use Rattle.precoder.proofs.Written.{stored}
-use Rattle.precoder.proofs.Columns.{column-below, below-append}
 
 -- ---- phase e, looked up in a table of phases some way apart
 
@@ -62,6 +50,9 @@ module _ (phases : List ℕ) (n : ℕ) (h : n ≤ length phases) where
   pub spaced-at : {apart : ℕ} → Spaced apart (take n phases) → (i : ℕ) → i < n → getD phases i 0 % apart ≡ 0
   spaced-at s i k = rw (getD-take n phases i 0 k) at (s .each i (omega (arith, length-take-le n phases h)))
 
+  pub below-at : {apart : ℕ} → Spaced apart (take n phases) → (i : ℕ) → i < n → getD phases i 0 < turn
+  below-at s i k = rw (getD-take n phases i 0 k) at (s .below i (omega (arith, length-take-le n phases h)))
+
   abbrev pub expanded : List ℤ
   expanded = numbers (map weight (take n phases))
 
@@ -95,62 +86,3 @@ module _ (phases : List ℕ) (n : ℕ) (h : n ≤ length phases) where
             sym (ap (λ (j : ℕ). getD expanded (j + 1) (weight 0 .y)) e
             ∙ numbers-y (map weight (take n phases)) (weight 0) i
             ∙ ap (λ (w : Weight). w .y) (weight-at i k))
-
--- ---- the phases of a matrix
-
-below-join : {A : Type 0} (f : A → List ℕ) → ((x : A) (i : ℕ) → getD (f x) i 0 < turn)
-    → (xs : List A) (i : ℕ) → getD (join (map f xs)) i 0 < turn
-unfolding join
-below-join f p [] i = omega arith
-below-join f p (x ∷ xs) i = below-append (f x) (join (map f xs)) (p x) (below-join f p xs) i
-
-module _ (r : Report) where
-  matrix-below : (i : ℕ) → getD (matrix r) i 0 < turn
-  unfolding matrix columnOf
-  matrix-below = below-join (columnOf r) (λ x. column-below (x .co) (block r (x .beam))) (layers r)
-
-  -- at most 8 layers of 32 ports
-  pub entries-few : InRange r → r .v * P r ≤ 256
-  entries-few h =
-      le-trans (mul-le-mul-right (P r) (h .few)) (omega (arith, ports-few (r .n1) (r .n2) (h .setting)))
-
-  -- where P divides 16, at most 8 of 16
-  pub coarse-few : InRange r → 16 % P r ≡ 0 → r .v * P r ≤ 128
-  coarse-few h d =
-      let few = le-of-dvd {m = P r} {n = 16} (omega arith) (dvd-of-mod-eq-zero (P r) d) in
-      le-trans (mul-le-mul-right (P r) (h .few)) (omega (arith, few))
-
-  -- and the last block of as many has sixteen
-  pub entries-fit : InRange r → r .v * P r + 16 ≤ 256 + rows r * r .n2
-  entries-fit h = by-length (halfLength r) refl
-    where
-      ports : P r ≤ 32
-      ports = ports-few (r .n1) (r .n2) (h .setting)
-
-      by-length : (b : Bool) → halfLength r ≡ b → r .v * P r + 16 ≤ 256 + cond b (r .n1 / 2) (r .n1) * r .n2
-      by-length true e = omega (arith, mul-le-mul-right (P r) (halved r e .few), ports)
-      by-length false e = omega (arith, mul-le-mul-right (P r) (h .few), ports)
-
-  pub length-weights : InRange r → length (weightsOf r) ≡ 2 * (r .v * P r)
-  unfolding weightsOf
-  length-weights h = length-numbers _ ∙ ap (λ (m : ℕ). 2 * m) (length-map (matrix r) _ ∙ length-matrix r h)
-
-  -- a list of which the first n entries are the matrix
-  module _ (phases : List ℕ) (n : ℕ) (e : n ≡ r .v * P r) (q : take (r .v * P r) phases ≡ matrix r) where
-    front : take n phases ≡ matrix r
-    front = ap (λ (m : ℕ). take m phases) e ∙ q
-
-    pub front-reduced : Reduced (take n phases)
-    front-reduced = rw front (record { below = λ i k. matrix-below i })
-
-    pub front-spaced : {apart : ℕ} → Multiples apart (matrix r) → Spaced apart (take n phases)
-    front-spaced {apart} m = rw front (record { each = multiples-at apart m })
-
-    -- copied, they are the report's answer, and so are their weights
-    pub front-phases : {o : List ℕ} (lent : List ℕ) → o ≡ take n phases ++ drop n lent → o ≡ matrix r ++ drop n lent
-    front-phases lent f = f ∙ rw front
-
-    pub front-weights : {o : List ℤ} (lent : List ℤ) → o ≡ numbers (map weight (take n phases)) ++ drop (2 * n) lent
-        → o ≡ weightsOf r ++ drop (2 * n) lent
-    unfolding weightsOf
-    front-weights lent f = f ∙ rw front

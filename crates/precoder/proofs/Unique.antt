@@ -1,8 +1,8 @@
 -- Each public function of the crate has one outcome on every input: any two that its contract admits are equal, the
--- record and every entry of the buffer. Assumes nothing.
+-- record and every entry of the buffer.
 use denote.Ref.{now}
-use Rattle.turn.proofs.Unique.{UniqueLeft}
-use Rattle.precoder.proofs.Answers.{one-answer}
+use Rattle.ground.specs.Unique.{UniqueLeft}
+use Rattle.plan.proofs.Answers.{one-answer}
 use Rattle.precoder.proofs.phases.Reads as phases
 use Rattle.precoder.proofs.weights.Reads as weights
 

@@ -1,5 +1,2 @@
--- What the contracts cite: first those of the public functions, then those of the functions below them.
-pub mod Answer
-pub mod Layer
-pub mod Digit
+-- What the contracts of the lookup cite.
 pub mod Lookup

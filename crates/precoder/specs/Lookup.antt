@@ -12,6 +12,7 @@ pub record Sampled (apart : ℕ) (stored : List ℤ) : Type 0 where
   pub whole : apart * (turn / apart) ≡ turn
   pub same : stored ≡ numbers (sampled apart)
 
--- phases that are multiples of `apart`
+-- phases, all multiples of `apart`
 pub record Spaced (apart : ℕ) (xs : List ℕ) : Type 0 where
+  pub below : (i : ℕ) → i < length xs → getD xs i 0 < turn
   pub each : (i : ℕ) → i < length xs → getD xs i 0 % apart ≡ 0

@@ -3,7 +3,8 @@ use settings::Ranges;
 ghost use mathlib.Core.Path.{_≡_};
 ghost use Rattle.report.specs.Beams.{beamsOf};
 
-mod beams;
+mod choice;
+mod rows;
 mod rules;
 
 // A report: the setting (N1,N2), the codebook mode, the rank v, and the indices.
@@ -20,8 +21,8 @@ pub struct Report {
 }
 
 // What a report's own numbers say: the first of 1, 2, 4 and 6 to 9 that applies, and else 0; what its setting needs; and
-// where it is 0, how many beams the report has, l and m of B, B', B'', B''', reduced, n of f(n), and whether its beams are of
-// half length. Unused places are 0.
+// where it is 0, how many beams the report has, l and m of B, B', B'', B''', reduced, n of f(n), and whether its beams are
+// of half length. Unused places are 0.
 pub struct Beams {
     pub refusal: u32,
     pub ports: u32,
@@ -45,5 +46,5 @@ pub fn beams_of(r: Report) -> Beams
     if k != 0 {
         return rules::refused(k, w.sizes);
     }
-    beams::choose(r, w.sizes)
+    choice::choose(r, w.sizes)
 }

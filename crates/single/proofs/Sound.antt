@@ -119,12 +119,12 @@ module _ (r : Report) (h : InRange r) where
       by-length false e = refl
 
   -- two or four blocks
-  pub few-blocks : (blocks r % 2 ≡ 0) × (blocks r ≤ 4)
+  pub few-blocks : (blocks r % 2 ≡ 0) × (2 ≤ blocks r) × (blocks r ≤ 4)
   few-blocks = by-length (isHalf r)
     where
-      by-length : (b : Bool) → (_≡_ {A = ℕ} (cond b 4 2 % 2) 0) × (cond b 4 2 ≤ 4)
-      by-length true = (refl, omega arith)
-      by-length false = (refl, omega arith)
+      by-length : (b : Bool) → (_≡_ {A = ℕ} (cond b 4 2 % 2) 0) × (2 ≤ cond b 4 2) × (cond b 4 2 ≤ 4)
+      by-length true = (refl, omega arith, omega arith)
+      by-length false = (refl, omega arith, omega arith)
 
   reached : (j : ℕ) → j < r .v → (layerAt (plan r) j .l < across (r .n1)) × (layerAt (plan r) j .m < down (r .n2))
   reached j hj =
@@ -163,7 +163,8 @@ module _ (r : Report) (h : InRange r) where
     few = ports-few (r .n1) (r .n2) (h .setting);
     narrow = k .n2-few;
     even = few-blocks .0;
-    panels = omega (arith, few-blocks .1);
+    two = few-blocks .1;
+    panels = omega (arith, few-blocks .2);
     many = length-layers r h;
     some = ranked r h .v-some;
     eight = ranked r h .v-few;

@@ -2,7 +2,11 @@
 use plan::Drawing;
 use turn::Part;
 ghost use mathlib.Core.Path.{_≡_};
-ghost use Rattle.plan.specs.Drawing.{drawable, Written};
+ghost use mathlib.Core.Bool.{true};
+ghost use Prim.Native.Nat.{_*_};
+ghost use lib.ListN.{length};
+ghost use Rattle.plan.specs.Drawing.{height, drawn, drawable, Written};
+ghost use Rattle.writer.specs.Blocks.{Laid};
 
 mod fill;
 
@@ -31,7 +35,10 @@ fn is_drawable(s: Drawing, room: usize) -> bool
 }
 
 // The layers, one after the other. Some entries after the last change, fewer than sixteen.
-fn layers(s: Drawing, out: &mut [Part]) {
+fn layers(s: Drawing, out: &mut [Part])
+    requires { ⌜ drawable s (length (now out)) ≡ true ⌝ }
+    ensures { λ _. ⌜ Laid (now (out .entry)) 0 (drawn s (s .v)) (s .v * height s) (now (out .exit)) ⌝ }
+{
     let v = s.v;
     let n = s.pairs as usize;
     let w = s.columns as usize;
@@ -45,7 +52,8 @@ fn layers(s: Drawing, out: &mut [Part]) {
     while j < v {
         let code = codes[j as usize];
         let place = (code / 512 % 4) as usize;
-        fill::column(out, at, n, h, w, steps[place], co, code);
+        let step = steps[place];
+        fill::column(out, at, n, h, w, step, co, code);
         at += height;
         j += 1;
     }

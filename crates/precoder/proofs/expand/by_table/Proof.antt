@@ -1,12 +1,10 @@
--- `expand::by_table` meets its contract: the matrix is written, and the table has the weights of all phases.
--- Assumes nothing.
+-- `expand::by_table` meets its contract: the layers are written, and the table has the weights of all phases.
 use mathlib.Core.Path.{refl, ap, _∙_}
 use native.Mathlib.Nat.{mod-one}
-use native.Mathlib.Omega.{arith}
-use borrow.Author.Needs.{needs}
 use Rattle.weight.specs.Table.{numbers}
 use Rattle.weight.proofs.Pairs.{sampled-one}
-use Rattle.precoder.proofs.Expanded.{entries-few, entries-fit, front-reduced, front-weights}
+use Rattle.precoder.proofs.Drawn.{enough, front-spaced, looked-up}
+use borrow.Author.Needs.{needs}
 use Rattle.precoder.proofs.expand.by_table.Statement.{statement}
 use Rattle.precoder.proofs.expand.by_table.Tie as tie
 
@@ -14,7 +12,7 @@ slice-aggregate-matrix : tie.Need-slice-aggregate-matrix
 slice-aggregate-matrix c = search needs
 
 matrix-requires : tie.Need-matrix-requires
-matrix-requires c κs = (c .before .pre .0, c .before .pre .1, entries-fit _ (c .before .pre .0))
+matrix-requires c κs = search needs
 
 table-requires : tie.Need-table-requires
 table-requires c κs = search needs
@@ -27,14 +25,12 @@ slice-aggregate-expand-2 c = search needs
 
 expand-requires : tie.Need-expand-requires
 expand-requires c κs =
-    let m = c .before .before .before .before .before in
-    let s = m .before .before in
-    let written = m .matrix .ensures in (
+    let s = c .before .before .before .before .before .before .before in
+    let w = c .before .before .before .before .before .matrix .ensures in (
       record { whole = refl; same = c .before .before .before .table .ensures ∙ ap numbers sampled-one },
-      omega (arith, entries-few _ (s .pre .0), s .pre .2, m .matrix .kept),
-      s .pre .3,
-      front-reduced _ _ _ (s .pre .2) written,
-      record { each = λ i h. mod-one _ },
+      enough (s .args .s) w (s .pre .1) (s .pre .0),
+      s .pre .2,
+      front-spaced (s .args .s) w (s .pre .1) (s .pre .0) (λ i h. mod-one _),
     )
 
 same-length : tie.Need-same-length
@@ -42,8 +38,8 @@ same-length c = search needs
 
 returns : tie.Need-returns
 returns c =
-    let m = c .before .before .before .before .before .before .before in
-    front-weights _ _ _ (m .before .before .pre .2) (m .matrix .ensures) _ (c .before .expand .ensures)
+    let s = c .before .before .before .before .before .before .before .before .before in
+    looked-up (s .args .s) (c .before .before .before .before .before .before .before .matrix .ensures) (s .pre .1) (s .pre .0) _ (c .before .expand .ensures)
 
 pub by-table-spec : {M : Type 1} → statement M
 by-table-spec =

@@ -1,5 +1,4 @@
 -- `expand::expand` meets its contract: each turn looks up the pair of one phase and stores its two numbers.
--- Assumes nothing.
 use mathlib.Core.Path.{_≡_, refl, _∙_}
 use mathlib.Core.List.{_++_, map}
 use Prim.Native.Nat.{_-_, _*_, _/_, _%_, _^_, _≤_, _<_}
@@ -13,10 +12,9 @@ use mir.Val.{hbits, toZ, ofZ}
 use mir.Facts.{toZ-ofZ}
 use Rattle.turn.specs.Phase.{turn}
 use Rattle.weight.specs.Table.{weight, numbers}
-use Rattle.precoder.proofs.Written.{stored-all}
-use Rattle.precoder.proofs.Columns.{reduced-at}
+use Rattle.ground.proofs.Written.{stored-all}
 use Rattle.precoder.proofs.Expanded.{apart-some, length-stored, place-within, stored-x, stored-y}
-use Rattle.precoder.proofs.Expanded.{spaced-at, length-expanded, weight-stored}
+use Rattle.precoder.proofs.Expanded.{spaced-at, below-at, length-expanded, weight-stored}
 use Rattle.precoder.proofs.expand.expand.Statement.{statement}
 use Rattle.precoder.proofs.expand.expand.Tie as tie
 
@@ -33,13 +31,13 @@ below : (c : tie.In-loop Inv-loop μ-loop)
     → getD (c .before .before .args .phases .now) (c .before .loop .i) 0 < turn
 below c =
     let s = c .before .before in
-    reduced-at _ (s .args .n) (s .pre .1) (s .pre .3) _ (c .loop-test .taken)
+    below-at _ (s .args .n) (s .pre .1) (s .pre .3) _ (c .loop-test .taken)
 
 spaced : (c : tie.In-loop Inv-loop μ-loop)
     → getD (c .before .before .args .phases .now) (c .before .loop .i) 0 % c .before .before .args .apart ≡ 0
 spaced c =
     let s = c .before .before in
-    spaced-at _ (s .args .n) (s .pre .1) (s .pre .4) _ (c .loop-test .taken)
+    spaced-at _ (s .args .n) (s .pre .1) (s .pre .3) _ (c .loop-test .taken)
 
 within : (c : tie.In-loop Inv-loop μ-loop) → let a = c .before .before .args in
     (getD (a .phases .now) (c .before .loop .i) 0 / a .apart < turn / a .apart) × (turn / a .apart ≤ turn)

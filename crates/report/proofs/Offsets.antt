@@ -1,0 +1,127 @@
+-- How far the beams stand from B, by rank: the offsets, how many there are, and what is said with beams that stand so.
+use mathlib.Core.Path.{_≡_, refl, sym}
+use mathlib.Core.Bool.{Bool, true, false, cond, _||_}
+use mathlib.Core.List.{List, [], _∷_}
+use Prim.Native.Nat.{ℕ, _<_, _≤_}
+use native.Mathlib.Omega.{arith}
+use lib.Dec.{eqb, leb, ltb, lit≤}
+use lib.ListN.{length, getD, length-map}
+use borrow.Author.Tests.{eq-eqb, ne-eqb, le-leb, lt-leb}
+use Rattle.ground.proofs.Booleans.{cond-both, cond-each}
+use Rattle.settings.specs.declared.Beam.{Beam}
+use Rattle.settings.specs.declared.Sizes.{Sizes}
+use Rattle.settings.specs.Ranges.{beam, halfLength, kRows}
+use Rattle.report.specs.declared.Report.{Report}
+use Rattle.report.specs.declared.Beams.{Beams}
+use Rattle.report.specs.Beams.{isHalf, base, offsets, moved, beams, saidOf}
+
+-- ---- which ranks have half-length beams
+
+pub whole-few : (r : Report) → r .v < 3 → isHalf r ≡ false
+unfolding halfLength
+whole-few r h = rw (lt-leb 3 (r .v) h)
+
+pub whole-many : (r : Report) → 4 < r .v → isHalf r ≡ false
+unfolding halfLength
+whole-many r h = rw (le-leb 3 (r .v) (omega arith), lt-leb (r .v) 4 h)
+
+-- ---- the offsets
+
+module _ (r : Report) where
+  pub offsets-one : r .v ≤ 4 → (eqb (r .v) 1 || isHalf r) ≡ true → offsets r ≡ beam 0 0 ∷ []
+  unfolding offsets
+  offsets-one h e = rw (lt-leb 7 (r .v) (omega arith), lt-leb 5 (r .v) (omega arith), e)
+
+  pub offsets-two : r .v ≤ 4 → (eqb (r .v) 1 || isHalf r) ≡ false
+      → offsets r ≡ beam 0 0 ∷ getD (kRows (r .n1) (r .n2) (r .v)) (r .i13) (beam 0 0) ∷ []
+  unfolding offsets
+  offsets-two h e = rw (lt-leb 7 (r .v) (omega arith), lt-leb 5 (r .v) (omega arith), e)
+
+  -- the step of a place is decided by N2
+  pub offsets-three : 5 ≤ r .v → r .v ≤ 6
+      → offsets r ≡ beam 0 0 ∷ beam 1 0 ∷ cond (ltb 1 (r .n2)) (beam 1 1) (beam 2 0) ∷ []
+  unfolding offsets
+  offsets-three h k =
+      rw (lt-leb 7 (r .v) (omega arith), le-leb 5 (r .v) h)
+      (sym (cond-each {B = List Beam} (λ x. beam 0 0 ∷ beam 1 0 ∷ x ∷ []) (ltb 1 (r .n2)) refl refl))
+
+  pub offsets-four : 7 ≤ r .v
+      → offsets r
+      ≡ beam 0 0 ∷ beam 1 0 ∷ cond (ltb 1 (r .n2)) (beam 0 1) (beam 2 0) ∷ cond (ltb 1 (r .n2)) (beam 1 1) (beam 3 0) ∷ []
+  unfolding offsets
+  offsets-four h = rw (le-leb 7 (r .v) h) (by-place (ltb 1 (r .n2)))
+    where
+      by-place : (b : Bool)
+          → cond b (beam 0 0 ∷ beam 1 0 ∷ beam 0 1 ∷ beam 1 1 ∷ []) (beam 0 0 ∷ beam 1 0 ∷ beam 2 0 ∷ beam 3 0 ∷ [])
+          ≡ beam 0 0 ∷ beam 1 0 ∷ cond b (beam 0 1) (beam 2 0) ∷ cond b (beam 1 1) (beam 3 0) ∷ []
+      by-place true = refl
+      by-place false = refl
+
+-- ---- how many there are
+
+-- by rank; `single` where there is no B′
+abbrev pub counted : ℕ → Bool → ℕ
+counted v single = cond (leb 7 v) 4 (cond (leb 5 v) 3 (cond single 1 2))
+
+pub counted-some : (v : ℕ) (single : Bool) → 1 ≤ counted v single
+counted-some v single =
+    cond-both (λ n. 1 ≤ n) (leb 7 v) (lit≤ tt)
+    (cond-both (λ n. 1 ≤ n) (leb 5 v) (lit≤ tt) (cond-both (λ n. 1 ≤ n) single (lit≤ tt) (lit≤ tt)))
+
+pub counted-few : (v : ℕ) (single : Bool) → counted v single ≤ 4
+counted-few v single =
+    cond-both (λ n. n ≤ 4) (leb 7 v) (lit≤ tt)
+    (cond-both (λ n. n ≤ 4) (leb 5 v) (lit≤ tt) (cond-both (λ n. n ≤ 4) single (lit≤ tt) (lit≤ tt)))
+
+module _ (r : Report) where
+  pub length-offsets : length (offsets r) ≡ counted (r .v) (eqb (r .v) 1 || isHalf r)
+  unfolding offsets
+  length-offsets =
+      cond-each length (leb 7 (r .v))
+      (cond-both (λ (ks : List Beam). length ks ≡ 4) (ltb 1 (r .n2)) refl refl)
+      (cond-each length (leb 5 (r .v))
+      (cond-both (λ (ks : List Beam). length ks ≡ 3) (ltb 1 (r .n2)) refl refl)
+      (cond-each length (eqb (r .v) 1 || isHalf r) refl refl))
+
+  pub offsets-some : 1 ≤ length (offsets r)
+  offsets-some = rw length-offsets (counted-some (r .v) (eqb (r .v) 1 || isHalf r))
+
+  pub offsets-few : length (offsets r) ≤ 4
+  offsets-few = rw length-offsets (counted-few (r .v) (eqb (r .v) 1 || isHalf r))
+
+  pub length-beams : length (beams r) ≡ length (offsets r)
+  unfolding beams
+  length-beams = length-map (offsets r) (moved r (base r))
+
+-- ---- what is said with beams that stand so, by rank
+
+abbrev pub saidAll : Report → Sizes → Beams
+saidAll r s = saidOf r s (isHalf r) (length (beams r)) (beams r)
+
+module _ (r : Report) (s : Sizes) {a : Beam} (first : a ≡ moved r (base r) (beam 0 0)) where
+  pub said-one : r .v ≡ 1 → saidOf r s false 1 (a ∷ beam 0 0 ∷ beam 0 0 ∷ beam 0 0 ∷ []) ≡ saidAll r s
+  unfolding beams
+  said-one e = rw (whole-few r (omega arith), offsets-one r (omega arith) (rw (eq-eqb (r .v) 1 e)), first)
+
+  pub said-half : isHalf r ≡ true → (r .v ≡ 1 → ⊥) → r .v ≤ 4
+      → saidOf r s true 1 (a ∷ beam 0 0 ∷ beam 0 0 ∷ beam 0 0 ∷ []) ≡ saidAll r s
+  unfolding beams
+  said-half h more few = rw (h, offsets-one r few (rw (ne-eqb (r .v) 1 more, h)), first)
+
+  pub said-two : {b : Beam} → isHalf r ≡ false → (r .v ≡ 1 → ⊥) → r .v ≤ 4
+      → b ≡ moved r (base r) (getD (kRows (r .n1) (r .n2) (r .v)) (r .i13) (beam 0 0))
+      → saidOf r s false 2 (a ∷ b ∷ beam 0 0 ∷ beam 0 0 ∷ []) ≡ saidAll r s
+  unfolding beams
+  said-two h more few second = rw (h, offsets-two r few (rw (ne-eqb (r .v) 1 more, h)), first, second)
+
+  module _ {b : Beam} (many : 5 ≤ r .v) (second : b ≡ moved r (base r) (beam 1 0)) where
+    pub said-three : {c : Beam} → r .v ≤ 6 → c ≡ moved r (base r) (cond (ltb 1 (r .n2)) (beam 1 1) (beam 2 0))
+        → saidOf r s false 3 (a ∷ b ∷ c ∷ beam 0 0 ∷ []) ≡ saidAll r s
+    unfolding beams
+    said-three few third = rw (whole-many r many, offsets-three r many few, first, second, third)
+
+    pub said-four : {c d : Beam} → 7 ≤ r .v → c ≡ moved r (base r) (cond (ltb 1 (r .n2)) (beam 0 1) (beam 2 0))
+        → d ≡ moved r (base r) (cond (ltb 1 (r .n2)) (beam 1 1) (beam 3 0))
+        → saidOf r s false 4 (a ∷ b ∷ c ∷ d ∷ []) ≡ saidAll r s
+    unfolding beams
+    said-four more third fourth = rw (whole-many r many, offsets-four r more, first, second, third, fourth)

@@ -1,0 +1,106 @@
+-- `choice::base_of` meets its contract: its four ways out are those of the definition, and the numbers of a report in
+-- range are small.
+use mathlib.Core.Path.{_≡_, sym, _∙_}
+use mathlib.Core.Bool.{true, false}
+use Prim.Native.Nat.{_/_, _<_}
+use native.Mathlib.Omega.{arith}
+use borrow.Author.Needs.{needs}
+use borrow.Author.Tests.{lt-ltb, le-ltb, not-false, not-true}
+use Rattle.report.specs.Beams.{inModeTwo, isHalf, base}
+use Rattle.report.proofs.InRange.{i11-small, i12-small, q-small, g-some}
+use Rattle.report.proofs.choice.base_of.Statement.{statement}
+use Rattle.report.proofs.choice.base_of.Tie as tie
+
+-- where the function starts, seen from behind the tests
+abbrev start₁ : tie.Else1 → tie.Start
+start₁ c = c .before .before
+
+abbrev startG : tie.After-g-of → tie.Start
+startG c = start₁ (c .before .before .before)
+
+whole : (c : tie.Else1) → isHalf (start₁ c .args .r) ≡ false
+whole c = sym (start₁ c .pre .1) ∙ c .if1 .left
+
+mode-two : (c : tie.Else2) → inModeTwo (start₁ (c .before .before) .args .r) ≡ true
+mode-two c = sym (c .before .is-mode-two .ensures) ∙ not-false _ (c .if2 .left)
+
+-- what mode 2 reckons with is small
+small : (c : tie.After-g-of)
+    → let r = startG c .args .r in
+    (r .i11 < 64) × (r .i12 < 16) × (r .i2 / c .g-of .result < 16)
+small c =
+    let h = startG c .pre .0 in
+    (i11-small _ h, i12-small _ h, rw (c .g-of .ensures) (q-small _ h))
+
+mul-l : tie.Need-mul-l
+mul-l c = omega (arith, i11-small _ (c .before .pre .0))
+
+returns : tie.Need-returns
+unfolding base
+returns c = rw (sym (c .before .before .pre .1) ∙ c .if1 .taken)
+
+is-mode-two-requires : tie.Need-is-mode-two-requires
+is-mode-two-requires c κs = search needs
+
+returns-2 : tie.Need-returns-2
+unfolding base
+returns-2 c = rw (whole (c .before .before), sym (c .before .is-mode-two .ensures) ∙ not-true _ (c .if2 .taken))
+
+g-of-requires : tie.Need-g-of-requires
+g-of-requires c κs = search needs
+
+div-q : tie.Need-div-q
+div-q c =
+    let g = c .before in
+    rw (g .g-of .ensures) (g-some (startG g .args .r .v))
+
+add-t9 : tie.Need-add-t9
+add-t9 c = omega (arith, small (c .before .before .before))
+
+mul-t10 : tie.Need-mul-t10
+mul-t10 c = omega (arith, small (c .before .before .before .before))
+
+add-t12 : tie.Need-add-t12
+add-t12 c = omega (arith, small (c .before .before .before .before))
+
+returns-3 : tie.Need-returns-3
+unfolding base
+returns-3 c =
+    let g = c .before .before .before .before in
+    rw (
+      whole (g .before .before .before),
+      mode-two (g .before),
+      lt-ltb 1 _ (c .before .if3 .taken),
+      g .g-of .ensures,
+    )
+
+add-t7 : tie.Need-add-t7
+add-t7 c = omega (arith, small (c .before .before .before))
+
+returns-4 : tie.Need-returns-4
+unfolding base
+returns-4 c =
+    let g = c .before .before .before in
+    rw (
+      whole (g .before .before .before),
+      mode-two (g .before),
+      le-ltb 1 _ (c .if3 .left),
+      g .g-of .ensures,
+    )
+
+pub base-of-spec : {M : Type 1} → statement M
+base-of-spec =
+    tie.close
+    (tie.spec
+    mul-l
+    returns
+    is-mode-two-requires
+    returns-2
+    g-of-requires
+    div-q
+    add-t9
+    mul-t10
+    add-t12
+    returns-3
+    add-t7
+    returns-4)

@@ -1,0 +1,146 @@
+-- `choice::choose` meets its contract: its beams are those of the offsets, and two ports have none but (0,0).
+use mathlib.Core.Path.{_≡_, refl, sym, ap, _∙_}
+use mathlib.Core.Bool.{false}
+use Prim.Native.Nat.{ℕ, _≤_}
+use native.Mathlib.Omega.{arith}
+use borrow.Author.Needs.{needs}
+use Rattle.settings.specs.Ranges.{beam, halfLength}
+use Rattle.report.specs.Beams.{isHalf, base, moved, Small}
+use Rattle.report.proofs.InRange.{v-some, i11-small, i12-small}
+use Rattle.report.proofs.Sized.{sizes-ports}
+use Rattle.report.proofs.Steps.{is-small, rows-small, base-small, base-movable, moved-from-base}
+use Rattle.report.proofs.Offsets.{said-one, said-half, said-two}
+use Rattle.report.proofs.Reached.{two-ports-said}
+use Rattle.report.proofs.choice.choose.Statement.{statement}
+use Rattle.report.proofs.choice.choose.Tie as tie
+
+-- where the function starts, seen from behind its first test and from B; and where B was moved, from later tests
+abbrev start₁ : tie.Else1 → tie.Start
+start₁ c = c .before .before
+
+abbrev startB : tie.After-base-of → tie.Start
+startB c = start₁ (c .before .before)
+
+abbrev moved₃ : tie.Else3 → tie.After-moved-by
+moved₃ c = c .before .before .before .before
+
+half : (c : tie.After-is-half-length) → c .is-half-length .result ≡ isHalf (start₁ (c .before) .args .r)
+half c =
+    let s = start₁ (c .before) in
+    let p = sizes-ports _ _ (s .pre .1) (s .pre .0 .setting) in
+    c .is-half-length .ensures ∙ ap (λ (p : ℕ). halfLength p (s .args .r .v)) p
+
+-- the first beam
+first : (c : tie.After-moved-by) → let r = startB (c .before) .args .r in c .moved-by .result ≡ moved r (base r) (beam 0 0)
+first c = moved-from-base _ (c .moved-by .ensures) (c .before .base-of .ensures) refl
+
+-- two to four layers, of whole beams
+few : (c : tie.Else3) → startB (moved₃ c .before) .args .r .v ≤ 4
+few c = omega (arith, c .before .before .if2 .left)
+
+whole : (c : tie.Else4) → isHalf (startB (moved₃ (c .before) .before) .args .r) ≡ false
+whole c = sym (half (moved₃ (c .before) .before .before)) ∙ c .if4 .left
+
+said-requires : tie.Need-said-requires
+said-requires c κs = search needs
+
+returns : tie.Need-returns
+returns c =
+    let s = c .before .before .before in
+    c .said .ensures ∙ two-ports-said _ (s .pre .0) (c .before .if1 .taken) (s .args .s)
+
+is-half-length-requires : tie.Need-is-half-length-requires
+is-half-length-requires c κs = search needs
+
+base-of-requires : tie.Need-base-of-requires
+base-of-requires c κs = (start₁ (c .before) .pre .0, half c)
+
+moved-by-requires : tie.Need-moved-by-requires
+moved-by-requires c κs =
+    let s = startB c in
+    base-movable (s .pre .0) (c .before .before .if1 .left) (s .pre .1) (c .base-of .ensures) (is-small (beam 0 0) tt)
+
+choose-many-requires : tie.Need-choose-many-requires
+choose-many-requires c κs = search needs
+
+returns-2 : tie.Need-returns-2
+returns-2 c = search needs
+
+said-requires-2 : tie.Need-said-requires-2
+said-requires-2 c κs = search needs
+
+returns-3 : tie.Need-returns-3
+returns-3 c =
+    let a = c .before .before .before .before .before in
+    c .said2 .ensures ∙ said-one _ (startB (a .before) .args .s) (first a) (c .before .if3 .taken)
+
+said-requires-3 : tie.Need-said-requires-3
+said-requires-3 c κs = search needs
+
+returns-4 : tie.Need-returns-4
+returns-4 c =
+    let more = c .before .before in
+    let a = moved₃ more in
+    let e = sym (half (a .before .before)) ∙ c .before .if4 .taken in
+    c .said3 .ensures ∙ said-half _ (startB (a .before) .args .s) (first a) e (more .if3 .left) (few more)
+
+k-row-requires : tie.Need-k-row-requires
+k-row-requires c κs =
+    let more = c .before in
+    let b = moved₃ more .before in
+    let s = startB b in (
+      s .pre .0,
+      b .before .before .if1 .left,
+      whole c,
+      omega (arith, v-some _ (s .pre .0), more .if3 .left),
+      few more,
+    )
+
+-- whichever of the report's numbers it is given, they are small
+moved-by-requires-2 : tie.Need-moved-by-requires-2
+moved-by-requires-2 c κs =
+    let b = moved₃ (c .before .before) .before in
+    let s = startB b in
+    let r = s .args .r in
+    let h = s .pre .0 in
+    let small : Small (b .base-of .result) = rw (b .base-of .ensures) (base-small r h) in (
+      h .setting,
+      b .before .before .if1 .left,
+      s .pre .1,
+      record { l = omega (arith, small .l, i11-small r h); m = omega (arith, small .m, i12-small r h) },
+      rw (c .k-row .ensures) (rows-small _ _ _ .at (r .i13)),
+    )
+
+said-requires-4 : tie.Need-said-requires-4
+said-requires-4 c κs = search needs
+
+-- the second beam is B, as it was before it was reduced, moved by the row of k
+returns-5 : tie.Need-returns-5
+returns-5 c =
+    let e = c .before .before .before in
+    let more = e .before in
+    let a = moved₃ more in
+    let second =
+    moved-from-base _ (c .before .moved-by2 .ensures) (a .before .base-of .ensures) (c .before .before .k-row .ensures) in
+    c .said4 .ensures
+    ∙ said-two _ (startB (a .before) .args .s) (first a) (whole e) (more .if3 .left) (few more) second
+
+pub choose-spec : {M : Type 1} → statement M
+choose-spec =
+    tie.close
+    (tie.spec
+    said-requires
+    returns
+    is-half-length-requires
+    base-of-requires
+    moved-by-requires
+    choose-many-requires
+    returns-2
+    said-requires-2
+    returns-3
+    said-requires-3
+    returns-4
+    k-row-requires
+    moved-by-requires-2
+    said-requires-4
+    returns-5)

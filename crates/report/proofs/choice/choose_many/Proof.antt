@@ -1,0 +1,110 @@
+-- `choice::choose_many` meets its contract: its beams are those of the offsets, whose steps N2 decides.
+use mathlib.Core.Path.{_≡_, refl, _∙_}
+use mathlib.Core.Bool.{true, cond}
+use Prim.Native.Nat.{ℕ}
+use native.Mathlib.Omega.{arith}
+use lib.Dec.{ltb}
+use borrow.Author.Needs.{needs}
+use Rattle.ground.proofs.Booleans.{cond-both}
+use Rattle.settings.specs.declared.Beam.{Beam}
+use Rattle.settings.specs.Settings.{isSetting, sizesOf}
+use Rattle.settings.specs.Ranges.{beam}
+use Rattle.report.specs.Beams.{base, moved, Small}
+use Rattle.report.proofs.InRange.{two-ports-v}
+use Rattle.report.proofs.Steps.{is-small, base-movable, moved-from-base}
+use Rattle.report.proofs.Offsets.{said-three, said-four}
+use Rattle.report.proofs.choice.choose_many.Statement.{statement}
+use Rattle.report.proofs.choice.choose_many.Tie as tie
+
+-- five layers need more than two ports, so B may be moved by any small step
+movable : (s : tie.Start) {k : Beam} → Small k
+    → let a = s .args in
+    (isSetting (a .r .n1) (a .r .n2) ≡ true) × (a .r .n1 ≡ 1 → ⊥) × (a .s ≡ sizesOf (a .r .n1) (a .r .n2)) × Small (a .x)
+    × Small k
+movable s =
+    let above : s .args .r .n1 ≡ 1 → ⊥ = λ two. omega (arith, two-ports-v (s .args .r) (s .pre .0) two, s .pre .4) in
+    base-movable (s .pre .0) above (s .pre .1) (s .pre .2)
+
+-- whichever of two small steps N2 decides on is small
+decided : (n2 : ℕ) {k a b : Beam} → k ≡ cond (ltb 1 n2) a b → Small a → Small b → Small k
+decided n2 e p q = rw e (cond-both Small (ltb 1 n2) p q)
+
+-- a beam that was moved from B by a step
+from-base : (s : tie.Start) {y k j : Beam} → y ≡ moved (s .args .r) (s .args .x) k → k ≡ j
+    → y ≡ moved (s .args .r) (base (s .args .r)) j
+from-base s e = moved-from-base (s .args .r) e (s .pre .2)
+
+moved-by-requires : tie.Need-moved-by-requires
+moved-by-requires c κs = movable c (is-small (beam 1 0) tt)
+
+step-for-requires : tie.Need-step-for-requires
+step-for-requires c κs = search needs
+
+moved-by-requires-2 : tie.Need-moved-by-requires-2
+moved-by-requires-2 c κs =
+    let s = c .before .before .before .before in
+    movable s (decided (s .args .r .n2) (c .step-for .ensures) (is-small (beam 1 1) tt) (is-small (beam 2 0) tt))
+
+said-requires : tie.Need-said-requires
+said-requires c κs = search needs
+
+returns : tie.Need-returns
+returns c =
+    let few = c .before .before .before in
+    let s = few .before .before .before in
+    let r = s .args .r in
+    c .said .ensures
+    ∙ said-three r (s .args .s) (from-base s (s .pre .3) refl)
+    (s .pre .4)
+    (from-base s (few .before .before .moved-by .ensures) refl)
+    (few .if1 .taken)
+    (from-base s (c .before .moved-by2 .ensures) (c .before .before .step-for .ensures))
+
+step-for-requires-2 : tie.Need-step-for-requires-2
+step-for-requires-2 c κs = search needs
+
+moved-by-requires-3 : tie.Need-moved-by-requires-3
+moved-by-requires-3 c κs =
+    let s = c .before .before .before .before in
+    movable s (decided (s .args .r .n2) (c .step-for2 .ensures) (is-small (beam 0 1) tt) (is-small (beam 2 0) tt))
+
+step-for-requires-3 : tie.Need-step-for-requires-3
+step-for-requires-3 c κs = search needs
+
+moved-by-requires-4 : tie.Need-moved-by-requires-4
+moved-by-requires-4 c κs =
+    let s = c .before .before .before .before .before .before in
+    movable s (decided (s .args .r .n2) (c .step-for3 .ensures) (is-small (beam 1 1) tt) (is-small (beam 3 0) tt))
+
+said-requires-2 : tie.Need-said-requires-2
+said-requires-2 c κs = search needs
+
+returns-2 : tie.Need-returns-2
+returns-2 c =
+    let third = c .before .before .before in
+    let many = third .before .before in
+    let s = many .before .before .before in
+    let r = s .args .r in
+    c .said2 .ensures
+    ∙ said-four r (s .args .s) (from-base s (s .pre .3) refl)
+    (s .pre .4)
+    (from-base s (many .before .before .moved-by .ensures) refl)
+    (many .if1 .left)
+    (from-base s (third .moved-by3 .ensures) (third .before .step-for2 .ensures))
+    (from-base s (c .before .moved-by4 .ensures) (c .before .before .step-for3 .ensures))
+
+pub choose-many-spec : {M : Type 1} → statement M
+choose-many-spec =
+    tie.close
+    (tie.spec
+    moved-by-requires
+    step-for-requires
+    moved-by-requires-2
+    said-requires
+    returns
+    step-for-requires-2
+    moved-by-requires-3
+    step-for-requires-3
+    moved-by-requires-4
+    said-requires-2
+    returns-2)

@@ -1,0 +1,39 @@
+-- `choice::moved_by` meets its contract: a setting above two ports has beams in both directions, O1 is 4 and steps of 4
+-- are steps of O2.
+use mathlib.Core.Path.{_≡_, ap₂}
+use Rattle.settings.specs.declared.Beam.{Beam}
+use Rattle.settings.specs.Settings.{across, down}
+use Rattle.settings.specs.Ranges.{beam}
+use Rattle.settings.proofs.Known.{Known, known}
+use Rattle.report.specs.Beams.{moved}
+use Rattle.report.proofs.Sized.{sizes-across, sizes-down, step-across, step-down}
+use Rattle.report.proofs.choice.moved_by.Statement.{statement}
+use Rattle.report.proofs.choice.moved_by.Tie as tie
+
+module _ (s : tie.Start) where
+  setting : Known (s .args .r .n1) (s .args .r .n2)
+  setting = known _ _ (s .pre .0)
+
+  wide : s .args .s .across ≡ across (s .args .r .n1)
+  wide = sizes-across _ _ (s .pre .2) (s .pre .0)
+
+  high : s .args .s .down ≡ down (s .args .r .n2)
+  high = sizes-down _ _ (s .pre .2) (s .pre .0)
+
+moved-along-requires : tie.Need-moved-along-requires
+moved-along-requires c κs = (c .pre .3 .l, c .pre .4 .l, rw (wide c) (setting c .across-some))
+
+moved-along-requires-2 : tie.Need-moved-along-requires-2
+moved-along-requires-2 c κs =
+    let s = c .before in
+    (s .pre .3 .m, s .pre .4 .m, rw (high s) (setting s .down-some))
+
+returns : tie.Need-returns
+unfolding moved
+returns c =
+    let s = c .before .before in
+    rw (c .before .moved-along .ensures, c .moved-along2 .ensures, wide s, high s)
+    (ap₂ {C = Beam} beam (step-across _ _ _ (s .pre .1)) (step-down _ _ _ (setting s .n2-some)))
+
+pub moved-by-spec : {M : Type 1} → statement M
+moved-by-spec = tie.close (tie.spec moved-along-requires moved-along-requires-2 returns)

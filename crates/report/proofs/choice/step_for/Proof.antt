@@ -1,0 +1,13 @@
+-- `choice::step_for` meets its contract: its test is that of the definition.
+use borrow.Author.Tests.{lt-ltb, le-ltb}
+use Rattle.report.proofs.choice.step_for.Statement.{statement}
+use Rattle.report.proofs.choice.step_for.Tie as tie
+
+returns : tie.Need-returns
+returns c = rw (lt-ltb _ _ (c .if1 .taken))
+
+returns-2 : tie.Need-returns-2
+returns-2 c = rw (le-ltb _ _ (c .if1 .left))
+
+pub step-for-spec : {M : Type 1} → statement M
+step-for-spec = tie.close (tie.spec returns returns-2)

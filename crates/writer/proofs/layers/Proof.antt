@@ -1,0 +1,166 @@
+-- `layers` meets its contract: each turn has the column of the next layer put after those that stand.
+use mathlib.Core.Path.{_≡_, ap, ap₂, subst₂}
+use mathlib.Core.List.{List}
+use Prim.Native.Nat.{ℕ, _+_, _-_, _*_, _/_, _≤_}
+use native.Mathlib.Nat.{mul-le-mul-right, mul-div-cancel}
+use native.Mathlib.Omega.{arith}
+use borrow.Author.Needs.{needs}
+use denote.Ref.{now}
+use lib.ListN.{length}
+use Rattle.plan.specs.declared.Drawing.{Drawing}
+use Rattle.plan.specs.Drawing.{height, beamAt, columnAt, drawn}
+use Rattle.writer.specs.Blocks.{Laid}
+use Rattle.writer.proofs.Laid.{laid-none, laid-layer}
+use Rattle.writer.proofs.Drawn.{Sizes, drawable-sizes, height-small}
+use Rattle.writer.proofs.layers.Statement.{statement}
+use Rattle.writer.proofs.layers.Tie as tie
+
+-- the drawing, of the numbers that the loop has
+abbrev held : ℕ → ℕ → ℕ → ℕ → List ℕ → List ℕ → List ℕ → Drawing
+held v n w h co steps codes = record { v = v; pairs = n; rows = h / w; columns = w; steps = steps; co = co; codes = codes }
+
+abbrev Inv-loop : tie.InvT-loop
+Inv-loop out₀ v n w h height co steps codes j₀ at₀ out j at =
+    (j ≤ v) × (at ≡ j * height) × Laid out₀ 0 (drawn (held v n w h co steps codes) j) at out
+
+abbrev μ-loop : tie.MeasureT-loop
+μ-loop out₀ v n w h height co steps codes j₀ at₀ out j at = v - j
+
+held-same : (s : Drawing) → 1 ≤ s .columns
+    → held (s .v) (s .pairs) (s .columns) (s .rows * s .columns) (s .co) (s .steps) (s .codes) ≡ s
+held-same s h i = record {
+  v = s .v;
+  pairs = s .pairs;
+  rows = mul-div-cancel (s .rows) h i;
+  columns = s .columns;
+  steps = s .steps;
+  co = s .co;
+  codes = s .codes;
+}
+
+-- where a place of the loop was entered, and what is known of the sizes
+abbrev start-of : tie.At-loop Inv-loop μ-loop → tie.Start Inv-loop μ-loop
+start-of c = c .before .before .before .before .before .before .before .before
+
+sizes : (s : tie.Start Inv-loop μ-loop) → Sizes (s .args .s) (length (s .args .out .now))
+sizes s = drawable-sizes _ _ (s .pre)
+
+-- what a turn writes is within the buffer
+room : (t : tie.In-loop Inv-loop μ-loop) → let l = t .before .loop in
+    l .at + height (start-of (t .before) .args .s) + 16 ≤ length (l .out)
+room t =
+    let s = start-of (t .before) in
+    let l = t .before .loop in
+    omega (arith, mul-le-mul-right (height (s .args .s)) (t .loop-test .taken), l .inv .1, l .inv .2 .long, sizes s .fits)
+
+cast-n : tie.Need-cast-n Inv-loop μ-loop
+cast-n c = omega (arith, sizes (c .before .before) .pairs)
+
+cast-w : tie.Need-cast-w Inv-loop μ-loop
+cast-w c = omega (arith, sizes (c .before .before .before) .narrow)
+
+cast-h : tie.Need-cast-h Inv-loop μ-loop
+cast-h c = search needs
+
+mul-h : tie.Need-mul-h Inv-loop μ-loop
+mul-h c = omega (arith, sizes (c .before .before .before .before) .block)
+
+mul-height : tie.Need-mul-height Inv-loop μ-loop
+mul-height c = omega (arith, height-small _ _ (sizes (c .before .before .before .before)))
+
+mul-height-2 : tie.Need-mul-height-2 Inv-loop μ-loop
+mul-height-2 c = omega (arith, height-small _ _ (sizes (c .before .before .before .before)))
+
+loop-holds : tie.Need-loop-holds Inv-loop μ-loop
+unfolding drawn
+loop-holds c = (omega arith, omega arith, laid-none _ 0)
+
+cast-code : tie.Need-cast-code Inv-loop μ-loop
+cast-code c = omega (arith, sizes (start-of (c .before)) .few)
+
+mul-code : tie.Need-mul-code Inv-loop μ-loop
+mul-code c = omega (arith, sizes (start-of (c .before)) .few)
+
+array-read-code : tie.Need-array-read-code Inv-loop μ-loop
+array-read-code c = omega (arith, sizes (start-of (c .before)) .few)
+
+cast-place : tie.Need-cast-place Inv-loop μ-loop
+cast-place c = omega arith
+
+mul-step : tie.Need-mul-step Inv-loop μ-loop
+mul-step c = omega arith
+
+array-read-step : tie.Need-array-read-step Inv-loop μ-loop
+array-read-step c = omega arith
+
+column-requires : tie.Need-column-requires Inv-loop μ-loop
+column-requires c κs =
+    let s = start-of (c .before .before) in
+    let z = sizes s in (
+      z .pairs,
+      z .some,
+      z .narrow,
+      z .block,
+      ap (λ (rows : ℕ). rows * s .args .s .columns) (mul-div-cancel (s .args .s .rows) (z .some)),
+      room (c .before),
+    )
+
+add-at : tie.Need-add-at Inv-loop μ-loop
+add-at c =
+    let t = c .before .before .before .before in
+    omega (arith, room t, t .before .loop .inv .2 .long, start-of (t .before) .good)
+
+add-j : tie.Need-add-j Inv-loop μ-loop
+add-j c = omega (arith, sizes (start-of (c .before .before .before .before .before)) .few)
+
+loop-less : tie.Need-loop-less Inv-loop μ-loop
+loop-less c = omega arith
+
+loop-again : tie.Need-loop-again Inv-loop μ-loop
+unfolding columnAt beamAt
+loop-again c =
+    let l = c .before .before .before .before .before .loop in (
+      omega arith,
+      omega (arith, l .inv .1),
+      laid-layer _ (l .j) (l .inv .2) (c .before .before .column .ensures),
+    )
+
+same-length : tie.Need-same-length Inv-loop μ-loop
+same-length c = c .before .loop .inv .2 .long
+
+returns : tie.Need-returns Inv-loop μ-loop
+returns c =
+    let l = c .before .loop in
+    let s = start-of (c .before) in
+    let d = s .args .s in
+    let all : l .j ≡ d .v = omega arith in
+    let same = ap₂ drawn (held-same d (sizes s .some)) all in
+    let end : l .at ≡ d .v * height d = rw all at (l .inv .1) in
+    subst₂ (λ (xs : List ℕ) (to : ℕ). Laid (now (s .args .out)) 0 xs to (l .out)) same end (l .inv .2)
+
+pub layers-spec : {M : Type 1} → statement M
+layers-spec =
+    tie.close
+    (tie.spec
+    Inv-loop
+    μ-loop
+    cast-n
+    cast-w
+    cast-h
+    mul-h
+    mul-height
+    mul-height-2
+    loop-holds
+    cast-code
+    mul-code
+    array-read-code
+    cast-place
+    mul-step
+    array-read-step
+    column-requires
+    add-at
+    add-j
+    loop-less
+    loop-again
+    same-length
+    returns)

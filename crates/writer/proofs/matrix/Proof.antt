@@ -1,0 +1,94 @@
+-- `matrix` meets its contract: the sixteen entries after the layers are kept and put back.
+use mathlib.Core.Path.{_≡_, refl, sym, ap, _∙_}
+use mathlib.Core.Bool.{true}
+use mathlib.Core.List.{List, _++_}
+use Prim.Native.Nat.{ℕ, _+_, _*_, _≤_}
+use native.Mathlib.Omega.{arith}
+use denote.Ref.{now}
+use lib.ListN.{length, take, drop}
+use borrow.Author.Needs.{needs}
+use borrow.Author.Tests.{not-true, not-false}
+use Rattle.plan.specs.Drawing.{height, drawn, drawable}
+use Rattle.writer.proofs.Laid.{put-back}
+use Rattle.writer.proofs.Drawn.{Sizes, drawable-sizes, height-small, all-small}
+use Rattle.writer.proofs.matrix.Statement.{statement}
+use Rattle.writer.proofs.matrix.Tie as tie
+
+-- the sizes can be drawn
+passed : (c : tie.Else1) → let a = c .before .before .before .args in drawable (a .s) (length (now (a .out))) ≡ true
+passed c = sym (c .before .is-drawable .ensures) ∙ not-false _ (c .if1 .left)
+
+sizes : (c : tie.Else1) → let a = c .before .before .before .args in Sizes (a .s) (length (now (a .out)))
+sizes c = drawable-sizes _ _ (passed c)
+
+-- where they were found to be
+abbrev passed-at : tie.After-places → tie.Else1
+passed-at c = c .before .before .before .before .before
+
+is-drawable-requires : tie.Need-is-drawable-requires
+is-drawable-requires c κs = search needs
+
+returns : tie.Need-returns
+returns c = record { fits = sym (not-true _ (c .if1 .taken)) ∙ c .before .is-drawable .ensures; stands = refl }
+
+mul-end : tie.Need-mul-end
+mul-end c = omega (arith, sizes (c .before) .block)
+
+mul-end-2 : tie.Need-mul-end-2
+mul-end-2 c = omega (arith, height-small _ _ (sizes (c .before .before)))
+
+mul-end-3 : tie.Need-mul-end-3
+mul-end-3 c = omega (arith, height-small _ _ (sizes (c .before .before)))
+
+mul-end-4 : tie.Need-mul-end-4
+mul-end-4 c = omega (arith, all-small _ _ (sizes (c .before .before .before)))
+
+cast-end : tie.Need-cast-end
+cast-end c = omega (arith, all-small _ _ (sizes (c .before .before .before)))
+
+places-requires : tie.Need-places-requires
+places-requires c κs = sizes (c .before .before .before .before) .fits
+
+layers-requires : tie.Need-layers-requires
+layers-requires c κs = passed (passed-at (c .before))
+
+put-requires : tie.Need-put-requires
+put-requires c κs =
+    let l = c .before .before .before in
+    omega (arith, sizes (passed-at (l .before .before)) .fits, l .layers .kept)
+
+same-length : tie.Need-same-length
+same-length c = search needs
+
+returns-2 : tie.Need-returns-2
+returns-2 c =
+    let put = c .before .before .put in
+    let l = c .before .before .before .before .before .before in
+    let places = l .before .before .places in
+    let e = passed-at (l .before .before) in
+    let a = e .before .before .before .args in
+    let end : ℕ = a .s .v * height (a .s) in
+    let back = ap (λ (kept : List ℕ). take end (l .layers .last .1 .0) ++ kept ++ drop (end + 16) (l .layers .last .1 .0))
+    (places .ensures) in
+    record {
+      fits = sym (passed e);
+      stands = put-back (now (a .out)) (l .layers .last .1 .0) (drawn (a .s) (a .s .v)) end (l .layers .ensures)
+          (put .ensures ∙ back);
+    }
+
+pub matrix-spec : {M : Type 1} → statement M
+matrix-spec =
+    tie.close
+    (tie.spec
+    is-drawable-requires
+    returns
+    mul-end
+    mul-end-2
+    mul-end-3
+    mul-end-4
+    cast-end
+    places-requires
+    layers-requires
+    put-requires
+    same-length
+    returns-2)
