@@ -12,7 +12,7 @@ import sys
 from pathlib import Path
 
 ROOT = Path(__file__).resolve().parent.parent
-DEMANDS = "crates/precoder/proofs/Demands.antt"
+DEMANDS = "crates/plan/specs/Demands.antt"
 
 
 def theorems(file):

@@ -28,9 +28,9 @@ fn few(s: Drawing, n: usize, out: &mut [Part])
     requires { ⌜ (drawable s 128 ≡ true) × (n ≡ s .v * height s) × (n ≤ length (now out)) ⌝ }
     ensures { λ _. ⌜ now (out .exit) ≡ drawn s (s .v) ++ drop n (now (out .entry)) ⌝ }
 {
-    let mut phases = [0; ROOM_FOR_FEW];
-    writer::matrix(s, &mut phases);
-    ground::copy(&phases, n, out);
+    let mut small = [0; ROOM_FOR_FEW];
+    writer::matrix(s, &mut small);
+    ground::copy(&small, n, out);
 }
 
 // The phases of any drawing, of n entries.
@@ -77,11 +77,11 @@ pub fn weights(r: Report, mask: &[u8], ranks: u8, out: &mut [i16]) -> Record
         return a;
     }
     let s = c.drawing;
-    let n = a.scale as usize;
+    let entries = a.scale as usize;
     if 16 % a.ports == 0 {
-        expand::by_coarse_table(s, n, out);
+        expand::by_coarse_table(s, entries, out);
         return a;
     }
-    expand::by_table(s, n, out);
+    expand::by_table(s, entries, out);
     a
 }

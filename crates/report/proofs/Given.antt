@@ -1,13 +1,16 @@
 -- What is given of a report, refused or not: its number, the sizes of its setting, and its beams where the number is 0.
 use mathlib.Core.Path.{_≡_, refl, sym, ap, _∙_}
-use Prim.Native.Nat.{ℕ, zero, suc}
+use Prim.Native.Nat.{ℕ, zero, suc, _<_}
+use lib.ListN.{getD}
 use Rattle.ground.specs.First.{first}
 use Rattle.settings.specs.Settings.{sizesOf}
 use Rattle.report.specs.declared.Report.{Report}
+use Rattle.report.specs.declared.Beams.{Beams}
 use Rattle.report.specs.Rules.{rule, ownOrder, InRange}
-use Rattle.report.specs.Beams.{said, beamsOf}
+use Rattle.report.specs.Beams.{beams, said, beamsOf}
 use Rattle.report.proofs.InRange.{zero-in-range, in-range-zero}
 use Rattle.report.proofs.Offsets.{saidAll}
+use Rattle.report.proofs.Reached.{none, four-at}
 
 module _ (r : Report) where
   said-refusal : (k : ℕ) → said r k .refusal ≡ k
@@ -58,3 +61,10 @@ module _ (r : Report) where
   pub given-beams : InRange r → beamsOf r ≡ saidAll r (sizesOf (r .n1) (r .n2))
   unfolding beamsOf
   given-beams h = ap (said r) (in-range-zero r h)
+
+  -- l and m of the beam at a place, and of none where there are fewer
+  pub given-l : InRange r → (i : ℕ) → i < 4 → getD (beamsOf r .l) i 0 ≡ getD (beams r) i none .l
+  given-l h i k = ap (λ (b : Beams). getD (b .l) i 0) (given-beams h) ∙ four-at (λ x. x .l) (beams r) i k
+
+  pub given-m : InRange r → (i : ℕ) → i < 4 → getD (beamsOf r .m) i 0 ≡ getD (beams r) i none .m
+  given-m h i k = ap (λ (b : Beams). getD (b .m) i 0) (given-beams h) ∙ four-at (λ x. x .m) (beams r) i k

@@ -1,5 +1,5 @@
 -- How far the beams stand from B, by rank: the offsets, how many there are, and what is said with beams that stand so.
-use mathlib.Core.Path.{_≡_, refl, sym}
+use mathlib.Core.Path.{_≡_, refl, sym, _∙_}
 use mathlib.Core.Bool.{Bool, true, false, cond, _||_}
 use mathlib.Core.List.{List, [], _∷_}
 use Prim.Native.Nat.{ℕ, _<_, _≤_}
@@ -98,30 +98,30 @@ module _ (r : Report) where
 abbrev pub saidAll : Report → Sizes → Beams
 saidAll r s = saidOf r s (isHalf r) (length (beams r)) (beams r)
 
-module _ (r : Report) (s : Sizes) {a : Beam} (first : a ≡ moved r (base r) (beam 0 0)) where
-  pub said-one : r .v ≡ 1 → saidOf r s false 1 (a ∷ beam 0 0 ∷ beam 0 0 ∷ beam 0 0 ∷ []) ≡ saidAll r s
+module _ (r : Report) (s : Sizes) {y : Beams} {a : Beam} (first : a ≡ moved r (base r) (beam 0 0)) where
+  pub said-one : y ≡ saidOf r s false 1 (a ∷ beam 0 0 ∷ beam 0 0 ∷ beam 0 0 ∷ []) → r .v ≡ 1 → y ≡ saidAll r s
   unfolding beams
-  said-one e = rw (whole-few r (omega arith), offsets-one r (omega arith) (rw (eq-eqb (r .v) 1 e)), first)
+  said-one p e = p ∙ rw (whole-few r (omega arith), offsets-one r (omega arith) (rw (eq-eqb (r .v) 1 e)), first)
 
-  pub said-half : isHalf r ≡ true → (r .v ≡ 1 → ⊥) → r .v ≤ 4
-      → saidOf r s true 1 (a ∷ beam 0 0 ∷ beam 0 0 ∷ beam 0 0 ∷ []) ≡ saidAll r s
+  pub said-half : y ≡ saidOf r s true 1 (a ∷ beam 0 0 ∷ beam 0 0 ∷ beam 0 0 ∷ [])
+      → isHalf r ≡ true → (r .v ≡ 1 → ⊥) → r .v ≤ 4 → y ≡ saidAll r s
   unfolding beams
-  said-half h more few = rw (h, offsets-one r few (rw (ne-eqb (r .v) 1 more, h)), first)
+  said-half p h more few = p ∙ rw (h, offsets-one r few (rw (ne-eqb (r .v) 1 more, h)), first)
 
-  pub said-two : {b : Beam} → isHalf r ≡ false → (r .v ≡ 1 → ⊥) → r .v ≤ 4
-      → b ≡ moved r (base r) (getD (kRows (r .n1) (r .n2) (r .v)) (r .i13) (beam 0 0))
-      → saidOf r s false 2 (a ∷ b ∷ beam 0 0 ∷ beam 0 0 ∷ []) ≡ saidAll r s
+  pub said-two : {b : Beam} → y ≡ saidOf r s false 2 (a ∷ b ∷ beam 0 0 ∷ beam 0 0 ∷ [])
+      → isHalf r ≡ false → (r .v ≡ 1 → ⊥) → r .v ≤ 4
+      → b ≡ moved r (base r) (getD (kRows (r .n1) (r .n2) (r .v)) (r .i13) (beam 0 0)) → y ≡ saidAll r s
   unfolding beams
-  said-two h more few second = rw (h, offsets-two r few (rw (ne-eqb (r .v) 1 more, h)), first, second)
+  said-two p h more few second = p ∙ rw (h, offsets-two r few (rw (ne-eqb (r .v) 1 more, h)), first, second)
 
-  module _ {b : Beam} (many : 5 ≤ r .v) (second : b ≡ moved r (base r) (beam 1 0)) where
-    pub said-three : {c : Beam} → r .v ≤ 6 → c ≡ moved r (base r) (cond (ltb 1 (r .n2)) (beam 1 1) (beam 2 0))
-        → saidOf r s false 3 (a ∷ b ∷ c ∷ beam 0 0 ∷ []) ≡ saidAll r s
+  module _ {b : Beam} (second : b ≡ moved r (base r) (beam 1 0)) (many : 5 ≤ r .v) where
+    pub said-three : {c : Beam} → y ≡ saidOf r s false 3 (a ∷ b ∷ c ∷ beam 0 0 ∷ []) → r .v ≤ 6
+        → c ≡ moved r (base r) (cond (ltb 1 (r .n2)) (beam 1 1) (beam 2 0)) → y ≡ saidAll r s
     unfolding beams
-    said-three few third = rw (whole-many r many, offsets-three r many few, first, second, third)
+    said-three p few third = p ∙ rw (whole-many r many, offsets-three r many few, first, second, third)
 
-    pub said-four : {c d : Beam} → 7 ≤ r .v → c ≡ moved r (base r) (cond (ltb 1 (r .n2)) (beam 0 1) (beam 2 0))
-        → d ≡ moved r (base r) (cond (ltb 1 (r .n2)) (beam 1 1) (beam 3 0))
-        → saidOf r s false 4 (a ∷ b ∷ c ∷ d ∷ []) ≡ saidAll r s
+    pub said-four : {c d : Beam} → y ≡ saidOf r s false 4 (a ∷ b ∷ c ∷ d ∷ []) → 7 ≤ r .v
+        → c ≡ moved r (base r) (cond (ltb 1 (r .n2)) (beam 0 1) (beam 2 0))
+        → d ≡ moved r (base r) (cond (ltb 1 (r .n2)) (beam 1 1) (beam 3 0)) → y ≡ saidAll r s
     unfolding beams
-    said-four more third fourth = rw (whole-many r many, offsets-four r more, first, second, third, fourth)
+    said-four p more third fourth = p ∙ rw (whole-many r many, offsets-four r more, first, second, third, fourth)

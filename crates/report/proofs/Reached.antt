@@ -1,5 +1,5 @@
 -- Where the beams of a report lie: every one is reduced, and so within its setting.
-use mathlib.Core.Path.{_≡_, refl, sym, ap₂}
+use mathlib.Core.Path.{_≡_, refl, sym, ap₂, _∙_}
 use mathlib.Core.Logic.{inl, inr}
 use mathlib.Core.Bool.{true, false}
 use mathlib.Core.List.{List, [], _∷_, map}
@@ -14,10 +14,11 @@ use Rattle.settings.specs.Settings.{isSetting, across, down}
 use Rattle.settings.specs.Ranges.{beam}
 use Rattle.settings.proofs.Known.{Known, known, one-by-one}
 use Rattle.report.specs.declared.Report.{Report}
+use Rattle.report.specs.declared.Beams.{Beams}
 use Rattle.report.specs.Beams.{isHalf, base, offsets, moved, beams, four, saidOf}
 use Rattle.report.specs.Rules.{InRange}
 use Rattle.report.proofs.InRange.{v-some, two-ports-v}
-use Rattle.report.proofs.Offsets.{whole-few, length-offsets, length-beams}
+use Rattle.report.proofs.Offsets.{whole-few, length-offsets, length-beams, saidAll}
 
 abbrev pub none : Beam
 none = beam 0 0
@@ -87,10 +88,11 @@ module _ (r : Report) (h : InRange r) (two : r .n1 ≡ 1) where
         | inr l ↦ rw (ne-eqb (r .v) 1 (λ q. omega arith)) (omega arith)
       ])
 
-  pub two-ports-said : (s : Sizes)
-      → saidOf r s false (r .v) (none ∷ none ∷ none ∷ none ∷ []) ≡ saidOf r s (isHalf r) (length (beams r)) (beams r)
-  two-ports-said s =
-      rw (
+  pub two-ports-said : (s : Sizes) {y : Beams} → y ≡ saidOf r s false (r .v) (none ∷ none ∷ none ∷ none ∷ [])
+      → y ≡ saidAll r s
+  two-ports-said s p =
+      p
+      ∙ rw (
         two-ports-whole,
         two-ports-count,
         two-ports-beam 0,

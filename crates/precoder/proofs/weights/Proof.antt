@@ -12,8 +12,8 @@ judge-requires c κs = search needs
 returns : tie.Need-returns
 returns c = refused-answers _ _ _ _ (c .before .before .before .judge .ensures) _ _ (c .if1 .taken)
 
-cast-n : tie.Need-cast-n
-cast-n c = search needs
+cast-entries : tie.Need-cast-entries
+cast-entries c = search needs
 
 rem-if2 : tie.Need-rem-if2
 rem-if2 c =
@@ -57,7 +57,7 @@ weights-spec =
     (tie.spec
     judge-requires
     returns
-    cast-n
+    cast-entries
     rem-if2
     by-coarse-table-requires
     same-length

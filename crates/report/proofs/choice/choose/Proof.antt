@@ -47,7 +47,7 @@ said-requires c κs = search needs
 returns : tie.Need-returns
 returns c =
     let s = c .before .before .before in
-    c .said .ensures ∙ two-ports-said _ (s .pre .0) (c .before .if1 .taken) (s .args .s)
+    two-ports-said _ (s .pre .0) (c .before .if1 .taken) _ (c .said .ensures)
 
 is-half-length-requires : tie.Need-is-half-length-requires
 is-half-length-requires c κs = search needs
@@ -72,7 +72,7 @@ said-requires-2 c κs = search needs
 returns-3 : tie.Need-returns-3
 returns-3 c =
     let a = c .before .before .before .before .before in
-    c .said2 .ensures ∙ said-one _ (startB (a .before) .args .s) (first a) (c .before .if3 .taken)
+    said-one _ _ (first a) (c .said2 .ensures) (c .before .if3 .taken)
 
 said-requires-3 : tie.Need-said-requires-3
 said-requires-3 c κs = search needs
@@ -82,7 +82,7 @@ returns-4 c =
     let more = c .before .before in
     let a = moved₃ more in
     let e = sym (half (a .before .before)) ∙ c .before .if4 .taken in
-    c .said3 .ensures ∙ said-half _ (startB (a .before) .args .s) (first a) e (more .if3 .left) (few more)
+    said-half _ _ (first a) (c .said3 .ensures) e (more .if3 .left) (few more)
 
 k-row-requires : tie.Need-k-row-requires
 k-row-requires c κs =
@@ -122,8 +122,7 @@ returns-5 c =
     let a = moved₃ more in
     let second =
     moved-from-base _ (c .before .moved-by2 .ensures) (a .before .base-of .ensures) (c .before .before .k-row .ensures) in
-    c .said4 .ensures
-    ∙ said-two _ (startB (a .before) .args .s) (first a) (whole e) (more .if3 .left) (few more) second
+    said-two _ _ (first a) (c .said4 .ensures) (whole e) (more .if3 .left) (few more) second
 
 pub choose-spec : {M : Type 1} → statement M
 choose-spec =

@@ -1,5 +1,5 @@
 -- `choice::choose_many` meets its contract: its beams are those of the offsets, whose steps N2 decides.
-use mathlib.Core.Path.{_≡_, refl, _∙_}
+use mathlib.Core.Path.{_≡_, refl}
 use mathlib.Core.Bool.{true, cond}
 use Prim.Native.Nat.{ℕ}
 use native.Mathlib.Omega.{arith}
@@ -52,13 +52,9 @@ returns : tie.Need-returns
 returns c =
     let few = c .before .before .before in
     let s = few .before .before .before in
-    let r = s .args .r in
-    c .said .ensures
-    ∙ said-three r (s .args .s) (from-base s (s .pre .3) refl)
-    (s .pre .4)
-    (from-base s (few .before .before .moved-by .ensures) refl)
-    (few .if1 .taken)
-    (from-base s (c .before .moved-by2 .ensures) (c .before .before .step-for .ensures))
+    let second = from-base s (few .before .before .moved-by .ensures) refl in
+    let third = from-base s (c .before .moved-by2 .ensures) (c .before .before .step-for .ensures) in
+    said-three _ _ (from-base s (s .pre .3) refl) second (s .pre .4) (c .said .ensures) (few .if1 .taken) third
 
 step-for-requires-2 : tie.Need-step-for-requires-2
 step-for-requires-2 c κs = search needs
@@ -81,17 +77,13 @@ said-requires-2 c κs = search needs
 
 returns-2 : tie.Need-returns-2
 returns-2 c =
-    let third = c .before .before .before in
-    let many = third .before .before in
+    let m3 = c .before .before .before in
+    let many = m3 .before .before in
     let s = many .before .before .before in
-    let r = s .args .r in
-    c .said2 .ensures
-    ∙ said-four r (s .args .s) (from-base s (s .pre .3) refl)
-    (s .pre .4)
-    (from-base s (many .before .before .moved-by .ensures) refl)
-    (many .if1 .left)
-    (from-base s (third .moved-by3 .ensures) (third .before .step-for2 .ensures))
-    (from-base s (c .before .moved-by4 .ensures) (c .before .before .step-for3 .ensures))
+    let second = from-base s (many .before .before .moved-by .ensures) refl in
+    let third = from-base s (m3 .moved-by3 .ensures) (m3 .before .step-for2 .ensures) in
+    let fourth = from-base s (c .before .moved-by4 .ensures) (c .before .before .step-for3 .ensures) in
+    said-four _ _ (from-base s (s .pre .3) refl) second (s .pre .4) (c .said2 .ensures) (many .if1 .left) third fourth
 
 pub choose-many-spec : {M : Type 1} → statement M
 choose-many-spec =

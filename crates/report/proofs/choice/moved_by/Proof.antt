@@ -1,6 +1,8 @@
 -- `choice::moved_by` meets its contract: a setting above two ports has beams in both directions, O1 is 4 and steps of 4
 -- are steps of O2.
-use mathlib.Core.Path.{_≡_, ap₂}
+use mathlib.Core.Path.{_≡_, ap, ap₂, _∙_}
+use Prim.Native.Nat.{ℕ, _+_, _*_, _%_}
+use native.Mathlib.Omega.{arith}
 use Rattle.settings.specs.declared.Beam.{Beam}
 use Rattle.settings.specs.Settings.{across, down}
 use Rattle.settings.specs.Ranges.{beam}
@@ -21,19 +23,22 @@ module _ (s : tie.Start) where
   high = sizes-down _ _ (s .pre .2) (s .pre .0)
 
 moved-along-requires : tie.Need-moved-along-requires
-moved-along-requires c κs = (c .pre .3 .l, c .pre .4 .l, rw (wide c) (setting c .across-some))
+moved-along-requires c κs = (c .pre .3 .l, c .pre .4 .l, omega (arith, wide c, setting c .across-some))
 
 moved-along-requires-2 : tie.Need-moved-along-requires-2
 moved-along-requires-2 c κs =
     let s = c .before in
-    (s .pre .3 .m, s .pre .4 .m, rw (high s) (setting s .down-some))
+    (s .pre .3 .m, s .pre .4 .m, omega (arith, high s, setting s .down-some))
 
 returns : tie.Need-returns
 unfolding moved
 returns c =
     let s = c .before .before in
-    rw (c .before .moved-along .ensures, c .moved-along2 .ensures, wide s, high s)
-    (ap₂ {C = Beam} beam (step-across _ _ _ (s .pre .1)) (step-down _ _ _ (setting s .n2-some)))
+    let x = s .args .x in
+    let k = s .args .k in
+    let along = ap (λ (w : ℕ). (x .l + 4 * k .l) % w) (wide s) ∙ step-across _ (x .l) (k .l) (s .pre .1) in
+    let upward = ap (λ (w : ℕ). (x .m + 4 * k .m) % w) (high s) ∙ step-down _ (x .m) (k .m) (setting s .n2-some) in
+    ap₂ {C = Beam} beam (c .before .moved-along .ensures ∙ along) (c .moved-along2 .ensures ∙ upward)
 
 pub moved-by-spec : {M : Type 1} → statement M
 moved-by-spec = tie.close (tie.spec moved-along-requires moved-along-requires-2 returns)
