@@ -119,7 +119,7 @@ module _ {R : Type 0} (b : Codebook R) {InRange : R → Type 0} (lawful : Lawful
     pub left-matrix : left ≡ matrix (b .plan r) ++ drop (v * P) lent
     left-matrix = as-accepted refl call e _ entries .0
 
-    left-layer : (j : ℕ) → j < v → layer P j left ≡ layer P j (matrix (b .plan r))
+    pub left-layer : (j : ℕ) → j < v → layer P j left ≡ layer P j (matrix (b .plan r))
     left-layer j h = ap (layer P j) left-matrix ∙ layer-before P v j (matrix (b .plan r)) (drop (v * P) lent) h entries
 
     pub buffer-orthogonal : (j k : ℕ) → j < v → k < v → j ≢ k → Orthogonal (layer P j left) (layer P k left)
@@ -151,7 +151,7 @@ module _ {R : Type 0} (b : Codebook R) {InRange : R → Type 0} (lawful : Lawful
     unfolding weightsOf rest
     left-pairs = ap pairs left-weights ∙ pairs-numbers (map weight (matrix (b .plan r))) (drop (2 * (v * P)) lent)
 
-    left-layer-weights : (j : ℕ) → j < v → layer P j (pairs left) ≡ map weight (columnOf (b .plan r) (layerAt (b .plan r) j))
+    pub left-layer-weights : (j : ℕ) → j < v → layer P j (pairs left) ≡ map weight (columnOf (b .plan r) (layerAt (b .plan r) j))
     left-layer-weights j h =
         ap (layer P j) left-pairs
         ∙ layer-before P v j (map weight (matrix (b .plan r))) rest h long-weights

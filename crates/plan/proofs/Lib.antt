@@ -7,3 +7,4 @@ pub mod Answers
 pub mod Calls
 pub mod Demands
 pub mod Masked
+pub mod Longer

@@ -83,8 +83,11 @@ module _ (r : Report) (mask : List ℕ) (ranks room : ℕ) {c : Judged}
     pub drawable-always : drawable (c .drawing) 272 ≡ true
     drawable-always =
         drawable-in 272
-        (omega (arith, planned-drawing.entries-few (plan r) (c .drawing) sound draws,
-        ap (λ (x : Record). x .scale) (accepted .1)))
+        (omega (
+          arith,
+          planned-drawing.entries-few (plan r) (c .drawing) sound draws,
+          ap (λ (x : Record). x .scale) (accepted .1),
+        ))
 
     -- where P divides 16, 144 entries will do, and a table of whole 32nds of a turn
     module _ (d : 16 % c .given .ports ≡ 0) where
@@ -94,8 +97,11 @@ module _ (r : Report) (mask : List ℕ) (ranks room : ℕ) {c : Judged}
       pub drawable-coarse : drawable (c .drawing) 144 ≡ true
       drawable-coarse =
           drawable-in 144
-          (omega (arith, planned-drawing.coarse-few (plan r) (c .drawing) sound draws divides,
-          ap (λ (x : Record). x .scale) (accepted .1)))
+          (omega (
+            arith,
+            planned-drawing.coarse-few (plan r) (c .drawing) sound draws divides,
+            ap (λ (x : Record). x .scale) (accepted .1),
+          ))
 
       pub spaced : Spaced thirtySecond (drawn (c .drawing) (c .drawing .v))
       spaced = planned-drawing.coarse-spaced (plan r) (c .drawing) sound draws divides

@@ -6,3 +6,4 @@ pub mod Judged
 pub mod Unique
 pub mod Demands
 pub mod Worked
+pub mod Frauds

@@ -86,9 +86,9 @@ module _ (p : Plan) (s : Drawing) (sound : Sound p) (draws : Draws p s) where
   multiples-join g f (y ∷ xs) h =
       all-append (h 0 (omega arith)) (multiples-join g f xs (λ j k. h (suc j) (omega arith)))
 
-  coarse-matrix : 16 % p .ports ≡ 0 → Multiples thirtySecond (matrix p)
+  pub matrix-coarse : 16 % p .ports ≡ 0 → Multiples thirtySecond (matrix p)
   unfolding matrix columnOf beam
-  coarse-matrix d =
+  matrix-coarse d =
       let c = p .block in
       let steps = sound .coarse d in
       multiples-join thirtySecond (columnOf p) (p .layers)
@@ -102,5 +102,5 @@ module _ (p : Plan) (s : Drawing) (sound : Sound p) (draws : Draws p s) where
   pub coarse-spaced : 16 % p .ports ≡ 0 → Spaced thirtySecond (drawn s (s .v))
   coarse-spaced d = record {
     below = λ i h. drawn-below s (s .v) i;
-    each = λ i h. multiples-at thirtySecond (subst (Multiples thirtySecond) (sym drawn-is) (coarse-matrix d)) i h;
+    each = λ i h. multiples-at thirtySecond (subst (Multiples thirtySecond) (sym drawn-is) (matrix-coarse d)) i h;
   }

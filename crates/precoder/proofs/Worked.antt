@@ -42,7 +42,7 @@ asks n1 n2 mode v i11 i12 i13 i2 =
     record { n1 = n1; n2 = n2; mode = mode; v = v; i11 = i11; i12 = i12; i13 = i13; i2 = i2 }
 
 -- a mask of so many bytes, all bits ones
-pub ones : ℕ → List ℕ
+abbrev pub ones : ℕ → List ℕ
 ones bytes = replicate bytes 255
 
 -- a buffer as it is lent: no phase
@@ -124,7 +124,7 @@ defined x = (recordOf (planned (plan (x .report))) (number x), take (length (x .
 -- row by row
 pub worked : map defined reports ≡ map said reports
 unfolding
-    reports ones lent said number left defined
+    reports lent said number left defined
     steps product grid step beam column
     some join first settings isSetting maskBytes byRank quarters
     modeTwo halfLength n base kTwo kThree kRows offsets moved beams

@@ -7,3 +7,4 @@ pub mod Offsets
 pub mod Reached
 pub mod Given
 pub mod Unique
+pub mod Examples

@@ -1,0 +1,57 @@
+-- A longer buffer gets the same record and the same answer, and keeps its rest; and no layer in it is empty.
+use mathlib.Core.Path.{_≡_, refl, sym, ap, _∙_}
+use mathlib.Core.List.{List, _++_, append-assoc}
+use Prim.Native.Nat.{ℕ, _*_, _<_, _≤_}
+use native.Mathlib.Omega.{arith}
+use lib.IntN.{ℤ}
+use lib.ListN.{length, drop, length-append}
+use lib.Seq.{drop-append-le}
+use Rattle.plan.specs.declared.Record.{Record}
+use Rattle.plan.specs.Plan.{layer}
+use Rattle.plan.specs.Answer.{Codebook, Called, Phases, Weights}
+use Rattle.plan.specs.Lawful.{Lawful}
+use Rattle.plan.proofs.Matrix.{layer-long, matrix-layer}
+use Rattle.plan.proofs.Answers.{number-given, as-accepted}
+use Rattle.plan.proofs.Masked.{more-room}
+use Rattle.plan.proofs.Calls.{sound, fits, entries, left-layer, length-weights}
+
+module _ {R : Type 0} (b : Codebook R) {InRange : R → Type 0} (lawful : Lawful b InRange)
+    (r : R) (mask : List ℕ) (ranks : ℕ) where
+  longer : {A : Type 0} {room room′ : ℕ} {answer lent : List A} {given given′ : Record} {left left′ : List A}
+      (more : List A) (n : ℕ) → length answer ≡ n → n ≤ length lent → room ≤ room′
+      → Called b r mask ranks room answer lent given left → Called b r mask ranks room′ answer (lent ++ more) given′ left′
+      → given .refusal ≡ 0 → (given′ ≡ given) × (left′ ≡ left ++ more)
+  longer {answer = answer} {lent = lent} more n l enough h call call′ e =
+      let e′ = number-given refl call′
+      ∙ more-room b r (lawful .numbers) mask ranks _ _ h (sym (number-given refl call) ∙ e) in
+      let one = as-accepted refl call e n l in
+      let other = as-accepted refl call′ e′ n l in (
+        other .1 ∙ sym (one .1),
+        other .0
+            ∙ ap (λ xs. answer ++ xs) (drop-append-le n lent more enough)
+            ∙ sym (append-assoc answer (drop n lent) more)
+            ∙ ap (λ xs. xs ++ more) (sym (one .0)),
+      )
+
+  module _ {lent : List ℕ} {given : Record} {left : List ℕ}
+      (call : Phases b r mask ranks lent given left) (e : given .refusal ≡ 0) where
+    pub longer-phases : {given′ : Record} {left′ : List ℕ} (more : List ℕ)
+        → Phases b r mask ranks (lent ++ more) given′ left′ → (given′ ≡ given) × (left′ ≡ left ++ more)
+    longer-phases more call′ =
+        longer more _ (entries b lawful r mask ranks call e) (fits b lawful r mask ranks _ call e)
+        (simp length-append (omega arith)) call call′ e
+
+    -- every layer in the buffer has an entry for each port, so that what is said of two layers is said of P entries each
+    pub layers-whole : (j : ℕ) → j < b .plan r .v → length (layer (b .plan r .ports) j left) ≡ b .plan r .ports
+    layers-whole j h =
+        let s = sound b lawful r mask ranks _ call e in
+        ap length (left-layer b lawful r mask ranks call e j h ∙ matrix-layer (b .plan r) s j h)
+        ∙ layer-long (b .plan r) s j h
+
+  module _ {lent : List ℤ} {given : Record} {left : List ℤ}
+      (call : Weights b r mask ranks lent given left) (e : given .refusal ≡ 0) where
+    pub longer-weights : {given′ : Record} {left′ : List ℤ} (more : List ℤ)
+        → Weights b r mask ranks (lent ++ more) given′ left′ → (given′ ≡ given) × (left′ ≡ left ++ more)
+    longer-weights more call′ =
+        longer more _ (length-weights b lawful r mask ranks call e) (let f = fits b lawful r mask ranks _ call e in omega arith)
+        (simp length-append (omega arith)) call call′ e
