@@ -1,34 +1,14 @@
 -- Columns, block by block: their lengths, and one block of a column.
-use mathlib.Core.Path.{_≡_, refl, sym, ap, _∙_}
-use mathlib.Core.List.{List, [], _∷_, _++_, map, append-assoc}
+use mathlib.Core.Path.{_≡_, refl, ap, _∙_}
+use mathlib.Core.List.{List, [], _∷_, _++_}
 use Prim.Native.Nat.{ℕ, zero, suc, _+_, _*_, _<_}
 use native.Mathlib.Numerals.{add-one}
 use native.Mathlib.Omega.{arith}
-use lib.ListN.{length, getD, length-append, length-map}
+use lib.ListN.{length, getD, length-append}
 use Rattle.turn.specs.Phase.{phase}
 use Rattle.turn.specs.Column.{product, column}
-use Rattle.turn.proofs.Lists.{length-product}
-use Rattle.ground.proofs.Lists.{map-append}
+use Rattle.turn.proofs.Columns.{column-append, length-column}
 use Rattle.plan.specs.Drawing.{coAt, coRow}
-
--- the first block, and the others
-column-cons : (x : ℕ) (xs ys : List ℕ) → column (x ∷ xs) ys ≡ map phase (map (λ y. x + y) ys) ++ column xs ys
-unfolding column product
-column-cons x xs ys = map-append phase (map (λ y. x + y) ys) (product xs ys)
-
--- the blocks of two lists of co-phases, one after the other
-pub column-append : (xs xs′ ys : List ℕ) → column (xs ++ xs′) ys ≡ column xs ys ++ column xs′ ys
-unfolding column product
-column-append [] xs′ ys = refl
-column-append (x ∷ xs) xs′ ys =
-    column-cons x (xs ++ xs′) ys
-    ∙ ap (λ (l : List ℕ). map phase (map (λ y. x + y) ys) ++ l) (column-append xs xs′ ys)
-    ∙ sym (append-assoc (map phase (map (λ y. x + y) ys)) (column xs ys) (column xs′ ys))
-    ∙ ap (λ (l : List ℕ). l ++ column xs′ ys) (sym (column-cons x xs ys))
-
-pub length-column : (xs ys : List ℕ) → length (column xs ys) ≡ length xs * length ys
-unfolding column
-length-column xs ys = length-map (product xs ys) phase ∙ length-product xs ys
 
 -- ---- one block
 

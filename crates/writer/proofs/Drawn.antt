@@ -3,7 +3,7 @@ use mathlib.Core.Path.{_≡_, refl, sym, ap, ap₂, _∙_}
 use mathlib.Core.Bool.{Bool, true, _&&_}
 use mathlib.Core.List.{List, _++_, map}
 use Prim.Native.Nat.{ℕ, zero, suc, _+_, _*_, _<_, _≤_}
-use native.Mathlib.Nat.{zero-mul, mul-le-mul}
+use native.Mathlib.Nat.{zero-mul}
 use native.Mathlib.Numerals.{add-one}
 use native.Mathlib.Omega.{arith}
 use lib.Dec.{leb}
@@ -16,8 +16,9 @@ use Rattle.ground.proofs.Booleans.{and-true-left, and-true-right}
 use Rattle.ground.proofs.Lists.{join-next}
 use Rattle.plan.specs.Plan.{Layer, Plan, past, layerAt, columnOf, matrix}
 use Rattle.plan.specs.declared.Drawing.{Drawing}
-use Rattle.plan.specs.Drawing.{entries, height, coRow, beamAt, columnAt, drawn, drawable, placeOf}
-use Rattle.writer.proofs.Columns.{length-column, length-row}
+use Rattle.plan.specs.Drawing.{entries, height, coRow, beamAt, columnAt, drawn, drawable}
+use Rattle.turn.proofs.Columns.{length-column}
+use Rattle.writer.proofs.Columns.{length-row}
 
 -- ---- layers
 
@@ -68,14 +69,6 @@ pub record Sizes (s : Drawing) (room : ℕ) : Type 0 where
   pub narrow : s .columns ≤ 4
   pub block : entries s ≤ 16
   pub fits : s .v * height s + 16 ≤ room
-
--- then no product of them is large
-module _ (s : Drawing) (room : ℕ) (z : Sizes s room) where
-  pub height-small : height s ≤ 128
-  height-small = omega (arith, mul-le-mul (z .pairs) (z .block))
-
-  pub all-small : s .v * height s ≤ 1024
-  all-small = mul-le-mul {n₂ = 8} {m₂ = 128} (z .few) height-small
 
 pub drawable-sizes : (s : Drawing) (room : ℕ) → drawable s room ≡ true → Sizes s room
 unfolding drawable

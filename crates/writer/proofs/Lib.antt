@@ -1,8 +1,8 @@
 -- Laws that the proofs share; `Drawn` has what other crates come for.
 pub mod Numbers
-pub mod Rows
 pub mod Columns
 pub mod Placed
+pub mod Rows
 pub mod Drawn
 pub mod Laid
 pub mod Unique

@@ -1,5 +1,5 @@
 -- The public function has one outcome on every input.
-use mathlib.Core.Path.{_≡_, refl, sym, _∙_}
+use mathlib.Core.Path.{refl, sym, _∙_}
 use denote.Ref.{now}
 use Rattle.ground.specs.Unique.{UniqueLeft}
 use Rattle.writer.proofs.matrix.Reads as matrix

@@ -34,8 +34,8 @@ fn shares(w: usize) -> u16
     8
 }
 
-// Two blocks of a beam in rows of w entries: at place i, which is entry b of row a, a steps of x and b of y, with c added in
-// the first block and d in the second.
+// Two blocks of a beam in rows of w entries: at place i, which is entry b of row a, a steps of x and b of y, with c added
+// in the first block and d in the second.
 pub fn draw(w: usize, x: u16, y: u16, c: u16, d: u16) -> Pair
     requires { ⌜ (1 ≤ w) × (w ≤ 4) × (x ≤ 255) × (y ≤ 255) × (c ≤ 511) × (d ≤ 511) ⌝ }
     ensures { λ p. ⌜ (p .first ≡ placed 16 w x y c) × (p .second ≡ placed 16 w x y d) ⌝ }

@@ -1,13 +1,13 @@
 -- `is_drawable` meets its contract: the code tests what the definition does, and no product of small sizes is large.
 use mathlib.Core.Path.{_≡_}
 use mathlib.Core.Bool.{true}
-use Prim.Native.Nat.{ℕ, _*_, _<_, _≤_}
-use native.Mathlib.Nat.{le-of-lt, mul-le-mul}
-use native.Mathlib.Omega.{arith}
+use Prim.Native.Nat.{_≤_}
+use native.Mathlib.Nat.{pos-of-ne-zero}
 use lib.Dec.{leb}
-use borrow.Author.Needs.{needs}
+use mir.Facts.{fits-widen}
 use borrow.Author.Tests.{le-leb, lt-leb}
-use Rattle.plan.specs.Drawing.{height, drawable}
+use Rattle.plan.specs.Drawing.{drawable}
+use Rattle.writer.proofs.Numbers.{small-64, past-fits, product-fits, half-small, height-small, all-small}
 use Rattle.writer.proofs.is_drawable.Statement.{statement}
 use Rattle.writer.proofs.is_drawable.Tie as tie
 
@@ -19,22 +19,10 @@ pairs : (c : tie.Else2) → leb (c .before .before .before .before .args .s .pai
 pairs c = le-leb _ _ (c .if2 .left)
 
 some : (c : tie.Else3) → 1 ≤ c .before .before .before .before .before .before .args .s .columns
-some c = omega (arith, c .if3 .left)
+some c = pos-of-ne-zero (c .if3 .left)
 
--- the entries of all layers
-module _ (c : tie.Else5) where
-  abbrev start : tie.Start
-  start = c .before .before .before .before .before .before .before .before .before .before .before
-
-  height-few : height (start .args .s) ≤ 128
-  height-few =
-      let second = c .before .before .before .before .before .before .before in
-      omega (arith, mul-le-mul (second .if2 .left) (c .if5 .left))
-
-  all-few : start .args .s .v * height (start .args .s) ≤ 1024
-  all-few =
-      let first = c .before .before .before .before .before .before .before .before .before in
-      mul-le-mul {n₂ = 8} {m₂ = 128} (first .if1 .left) height-few
+abbrev second-of : tie.Else5 → tie.Else2
+second-of c = c .before .before .before .before .before .before .before
 
 returns : tie.Need-returns
 unfolding drawable
@@ -47,9 +35,7 @@ returns-2 c = rw (few (c .before .before), lt-leb _ _ (c .if2 .taken))
 returns-3 : tie.Need-returns-3
 unfolding drawable
 returns-3 c =
-    let columns = c .before .before .before .before .before .before .args .s .columns in
-    let none : columns < 1 = omega (arith, c .if3 .taken) in
-    rw (few (c .before .before .before .before), pairs (c .before .before), lt-leb 1 columns none)
+    rw (few (c .before .before .before .before), pairs (c .before .before), c .if3 .taken)
 
 returns-4 : tie.Need-returns-4
 unfolding drawable
@@ -59,16 +45,15 @@ returns-4 c =
     rw (few (second .before .before), pairs second, le-leb _ _ (some third), lt-leb _ _ (c .if4 .taken))
 
 cast-h : tie.Need-cast-h
-cast-h c = search needs
+cast-h c = fits-widen tt (c .struct-known5 .given .1 .1 .0)
 
 cast-h-2 : tie.Need-cast-h-2
-cast-h-2 c = search needs
+cast-h-2 c = fits-widen tt (c .struct-known6 .given .1 .1 .1 .0)
 
 mul-h : tie.Need-mul-h
 mul-h c =
     let narrow = c .before .before .if4 .left in
-    let rows = le-of-lt (c .before .struct-known5 .given .1 .1 .0 .fits) in
-    omega (arith, mul-le-mul rows narrow)
+    product-fits _ _ (c .before .struct-known5 .given .1 .1 .0) narrow
 
 returns-5 : tie.Need-returns-5
 unfolding drawable
@@ -85,22 +70,30 @@ returns-5 c =
     )
 
 cast-end : tie.Need-cast-end
-cast-end c = search needs
+cast-end c = fits-widen tt (c .struct-known7 .given .0)
 
 cast-end-2 : tie.Need-cast-end-2
-cast-end-2 c = search needs
+cast-end-2 c = fits-widen tt (c .struct-known8 .given .1 .0)
 
 mul-end : tie.Need-mul-end
-mul-end c = omega (arith, height-few (c .before .before))
+mul-end c =
+    let second = second-of (c .before .before) in
+    small-64 _ (half-small _ _ _ (second .before .before .if1 .left) (second .if2 .left) (c .before .before .if5 .left))
 
 mul-end-2 : tie.Need-mul-end-2
-mul-end-2 c = omega (arith, height-few (c .before .before))
+mul-end-2 c =
+    let second = second-of (c .before .before) in
+    small-64 _ (height-small _ _ _ (second .before .before .if1 .left) (second .if2 .left) (c .before .before .if5 .left))
 
 mul-end-3 : tie.Need-mul-end-3
-mul-end-3 c = omega (arith, all-few (c .before .before))
+mul-end-3 c =
+    let second = second-of (c .before .before) in
+    small-64 _ (all-small _ _ _ (second .before .before .if1 .left) (second .if2 .left) (c .before .before .if5 .left))
 
 add-result : tie.Need-add-result
-add-result c = omega (arith, all-few (c .before .before))
+add-result c =
+    let second = second-of (c .before .before) in
+    past-fits _ (all-small _ _ _ (second .before .before .if1 .left) (second .if2 .left) (c .before .before .if5 .left))
 
 returns-6 : tie.Need-returns-6
 unfolding drawable

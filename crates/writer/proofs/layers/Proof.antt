@@ -1,17 +1,19 @@
 -- `layers` meets its contract: each turn has the column of the next layer put after those that stand.
-use mathlib.Core.Path.{_≡_, ap, ap₂, subst₂}
+use mathlib.Core.Path.{_≡_, sym, ap, ap₂, subst, subst₂}
 use mathlib.Core.List.{List}
-use Prim.Native.Nat.{ℕ, _+_, _-_, _*_, _/_, _≤_}
-use native.Mathlib.Nat.{mul-le-mul-right, mul-div-cancel}
-use native.Mathlib.Omega.{arith}
-use borrow.Author.Needs.{needs}
+use Prim.Native.Nat.{ℕ, _+_, _-_, _*_, _/_, _^_, _<_, _≤_, zero-le}
+use native.Mathlib.Nat.{le-antisymm, le-trans, mod-lt, mul-div-cancel}
+use lib.Dec.{lit<, lit≤}
+use mir.Facts.{fits-widen}
 use denote.Ref.{now}
 use lib.ListN.{length}
 use Rattle.plan.specs.declared.Drawing.{Drawing}
 use Rattle.plan.specs.Drawing.{height, beamAt, columnAt, drawn}
 use Rattle.writer.specs.Blocks.{Laid}
+use Rattle.writer.proofs.Numbers.{falls, next-within, next-fits-32, place-fits, twice-fits, code-fits, code-fits-4}
+use Rattle.writer.proofs.Numbers.{small-64, half-small, height-small, none-first, part-end, part-within, part-fits}
 use Rattle.writer.proofs.Laid.{laid-none, laid-layer}
-use Rattle.writer.proofs.Drawn.{Sizes, drawable-sizes, height-small}
+use Rattle.writer.proofs.Drawn.{Sizes, drawable-sizes}
 use Rattle.writer.proofs.layers.Statement.{statement}
 use Rattle.writer.proofs.layers.Tie as tie
 
@@ -51,47 +53,55 @@ room : (t : tie.In-loop Inv-loop μ-loop) → let l = t .before .loop in
 room t =
     let s = start-of (t .before) in
     let l = t .before .loop in
-    omega (arith, mul-le-mul-right (height (s .args .s)) (t .loop-test .taken), l .inv .1, l .inv .2 .long, sizes s .fits)
+    part-within (height (s .args .s)) (s .args .s .v) (l .j) (l .at) _ _ (l .inv .1) (t .loop-test .taken) (sizes s .fits)
+    (l .inv .2 .long)
+
+few : (s : tie.Start Inv-loop μ-loop) → s .args .s .v ≤ 16
+few s = le-trans (sizes s .few) (lit≤ tt)
 
 cast-n : tie.Need-cast-n Inv-loop μ-loop
-cast-n c = omega (arith, sizes (c .before .before) .pairs)
+cast-n c = small-64 _ (le-trans (sizes (c .before .before) .pairs) (lit≤ tt))
 
 cast-w : tie.Need-cast-w Inv-loop μ-loop
-cast-w c = omega (arith, sizes (c .before .before .before) .narrow)
+cast-w c = small-64 _ (le-trans (sizes (c .before .before .before) .narrow) (lit≤ tt))
 
 cast-h : tie.Need-cast-h Inv-loop μ-loop
-cast-h c = search needs
+cast-h c = fits-widen tt (c .struct-known3 .given .1 .1 .0)
 
 mul-h : tie.Need-mul-h Inv-loop μ-loop
-mul-h c = omega (arith, sizes (c .before .before .before .before) .block)
+mul-h c = small-64 _ (le-trans (sizes (c .before .before .before .before) .block) (lit≤ tt))
 
 mul-height : tie.Need-mul-height Inv-loop μ-loop
-mul-height c = omega (arith, height-small _ _ (sizes (c .before .before .before .before)))
+mul-height c =
+    let z = sizes (c .before .before .before .before) in
+    small-64 _ (half-small _ _ _ (z .few) (z .pairs) (z .block))
 
 mul-height-2 : tie.Need-mul-height-2 Inv-loop μ-loop
-mul-height-2 c = omega (arith, height-small _ _ (sizes (c .before .before .before .before)))
+mul-height-2 c =
+    let z = sizes (c .before .before .before .before) in
+    small-64 _ (height-small _ _ _ (z .few) (z .pairs) (z .block))
 
 loop-holds : tie.Need-loop-holds Inv-loop μ-loop
 unfolding drawn
-loop-holds c = (omega arith, omega arith, laid-none _ 0)
+loop-holds c = (zero-le, none-first _, laid-none _ 0)
 
 cast-code : tie.Need-cast-code Inv-loop μ-loop
-cast-code c = omega (arith, sizes (start-of (c .before)) .few)
+cast-code c = place-fits _ _ (few (start-of (c .before))) (c .loop-test .taken)
 
 mul-code : tie.Need-mul-code Inv-loop μ-loop
-mul-code c = omega (arith, sizes (start-of (c .before)) .few)
+mul-code c = twice-fits _ _ (few (start-of (c .before))) (c .loop-test .taken)
 
 array-read-code : tie.Need-array-read-code Inv-loop μ-loop
-array-read-code c = omega (arith, sizes (start-of (c .before)) .few)
+array-read-code c = le-trans (c .loop-test .taken) (sizes (start-of (c .before)) .few)
 
 cast-place : tie.Need-cast-place Inv-loop μ-loop
-cast-place c = omega arith
+cast-place c = code-fits _
 
 mul-step : tie.Need-mul-step Inv-loop μ-loop
-mul-step c = omega arith
+mul-step c = code-fits-4 _
 
 array-read-step : tie.Need-array-read-step Inv-loop μ-loop
-array-read-step c = omega arith
+array-read-step c = mod-lt _ (lit< tt)
 
 column-requires : tie.Need-column-requires Inv-loop μ-loop
 column-requires c κs =
@@ -108,20 +118,24 @@ column-requires c κs =
 add-at : tie.Need-add-at Inv-loop μ-loop
 add-at c =
     let t = c .before .before .before .before in
-    omega (arith, room t, t .before .loop .inv .2 .long, start-of (t .before) .good)
+    let short = start-of (t .before) .good .1 .0 .0 in
+    part-fits _ (t .before .loop .at) _ (room t) (subst (λ (n : ℕ). n < 2 ^ 64) (sym (t .before .loop .inv .2 .long)) short)
 
 add-j : tie.Need-add-j Inv-loop μ-loop
-add-j c = omega (arith, sizes (start-of (c .before .before .before .before .before)) .few)
+add-j c =
+    let t = c .before .before .before .before in
+    next-fits-32 _ _ (few (start-of (t .before))) (t .loop-test .taken)
 
 loop-less : tie.Need-loop-less Inv-loop μ-loop
-loop-less c = omega arith
+loop-less c = falls _ _ (c .before .before .before .before .loop-test .taken)
 
 loop-again : tie.Need-loop-again Inv-loop μ-loop
 unfolding columnAt beamAt
 loop-again c =
-    let l = c .before .before .before .before .before .loop in (
-      omega arith,
-      omega (arith, l .inv .1),
+    let t = c .before .before .before .before in
+    let l = t .before .loop in (
+      next-within _ _ (t .loop-test .taken),
+      part-end _ (l .j) (l .at) (l .inv .1),
       laid-layer _ (l .j) (l .inv .2) (c .before .before .column .ensures),
     )
 
@@ -133,7 +147,7 @@ returns c =
     let l = c .before .loop in
     let s = start-of (c .before) in
     let d = s .args .s in
-    let all : l .j ≡ d .v = omega arith in
+    let all : l .j ≡ d .v = le-antisymm (l .inv .0) (c .loop-test .left) in
     let same = ap₂ drawn (held-same d (sizes s .some)) all in
     let end : l .at ≡ d .v * height d = rw all at (l .inv .1) in
     subst₂ (λ (xs : List ℕ) (to : ℕ). Laid (now (s .args .out)) 0 xs to (l .out)) same end (l .inv .2)

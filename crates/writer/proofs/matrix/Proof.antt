@@ -3,14 +3,15 @@ use mathlib.Core.Path.{_≡_, refl, sym, ap, _∙_}
 use mathlib.Core.Bool.{true}
 use mathlib.Core.List.{List, _++_}
 use Prim.Native.Nat.{ℕ, _+_, _*_, _≤_}
-use native.Mathlib.Omega.{arith}
+use native.Mathlib.Nat.{le-of-eq, le-trans}
+use lib.Dec.{lit≤}
 use denote.Ref.{now}
 use lib.ListN.{length, take, drop}
-use borrow.Author.Needs.{needs}
 use borrow.Author.Tests.{not-true, not-false}
 use Rattle.plan.specs.Drawing.{height, drawn, drawable}
+use Rattle.writer.proofs.Numbers.{small-32, small-64, half-small, height-small, all-small}
 use Rattle.writer.proofs.Laid.{put-back}
-use Rattle.writer.proofs.Drawn.{Sizes, drawable-sizes, height-small, all-small}
+use Rattle.writer.proofs.Drawn.{Sizes, drawable-sizes}
 use Rattle.writer.proofs.matrix.Statement.{statement}
 use Rattle.writer.proofs.matrix.Tie as tie
 
@@ -26,25 +27,33 @@ abbrev passed-at : tie.After-places → tie.Else1
 passed-at c = c .before .before .before .before .before
 
 is-drawable-requires : tie.Need-is-drawable-requires
-is-drawable-requires c κs = search needs
+is-drawable-requires c κs = tt
 
 returns : tie.Need-returns
 returns c = record { fits = sym (not-true _ (c .if1 .taken)) ∙ c .before .is-drawable .ensures; stands = refl }
 
 mul-end : tie.Need-mul-end
-mul-end c = omega (arith, sizes (c .before) .block)
+mul-end c = small-32 _ (le-trans (sizes (c .before) .block) (lit≤ tt))
 
 mul-end-2 : tie.Need-mul-end-2
-mul-end-2 c = omega (arith, height-small _ _ (sizes (c .before .before)))
+mul-end-2 c =
+    let z = sizes (c .before .before) in
+    small-32 _ (half-small _ _ _ (z .few) (z .pairs) (z .block))
 
 mul-end-3 : tie.Need-mul-end-3
-mul-end-3 c = omega (arith, height-small _ _ (sizes (c .before .before)))
+mul-end-3 c =
+    let z = sizes (c .before .before) in
+    small-32 _ (height-small _ _ _ (z .few) (z .pairs) (z .block))
 
 mul-end-4 : tie.Need-mul-end-4
-mul-end-4 c = omega (arith, all-small _ _ (sizes (c .before .before .before)))
+mul-end-4 c =
+    let z = sizes (c .before .before .before) in
+    small-32 _ (all-small _ _ _ (z .few) (z .pairs) (z .block))
 
 cast-end : tie.Need-cast-end
-cast-end c = omega (arith, all-small _ _ (sizes (c .before .before .before)))
+cast-end c =
+    let z = sizes (c .before .before .before) in
+    small-64 _ (all-small _ _ _ (z .few) (z .pairs) (z .block))
 
 places-requires : tie.Need-places-requires
 places-requires c κs = sizes (c .before .before .before .before) .fits
@@ -55,10 +64,10 @@ layers-requires c κs = passed (passed-at (c .before))
 put-requires : tie.Need-put-requires
 put-requires c κs =
     let l = c .before .before .before in
-    omega (arith, sizes (passed-at (l .before .before)) .fits, l .layers .kept)
+    le-trans (sizes (passed-at (l .before .before)) .fits) (le-of-eq (sym (l .layers .kept .1 .0)))
 
 same-length : tie.Need-same-length
-same-length c = search needs
+same-length c = c .before .before .put .kept .0 ∙ c .before .before .before .before .before .before .layers .kept .1 .0
 
 returns-2 : tie.Need-returns-2
 returns-2 c =

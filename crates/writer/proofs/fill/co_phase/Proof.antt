@@ -1,12 +1,15 @@
 -- `fill::co_phase` meets its contract: a co-phase is a byte, and a bit takes it or not.
 use mathlib.Core.Path.{refl}
-use Prim.Native.Nat.{ℕ, _*_, _/_, _%_, _≤_}
-use native.Mathlib.Nat.{mul-le-mul}
+use Prim.Native.Nat.{ℕ, _+_, _*_, _/_, _%_, _≤_}
+use native.Mathlib.Nat.{le-trans, le-of-lt, le-of-suc-le-suc, mul-le-mul}
 use native.Mathlib.Omega.{arith}
+use lib.Dec.{lit≤}
 use lib.ListN.{getD}
-use mir.Syntax.{w8}
+use mir.Syntax.{w8, w16}
 use mir.Val.{Fits}
-use borrow.Author.Needs.{needs}
+use borrow.Author.Needs.{elem-fits}
+use mir.Facts.{fits-le, fits-lit, fits-widen}
+use Rattle.turn.specs.Phase.{half}
 use Rattle.plan.specs.Drawing.{coAt}
 use Rattle.writer.proofs.fill.co_phase.Statement.{statement}
 use Rattle.writer.proofs.fill.co_phase.Tie as tie
@@ -15,41 +18,50 @@ use Rattle.writer.proofs.fill.co_phase.Tie as tie
 bit-of : (x y n : ℕ) → y ≤ n → x % 2 * y ≤ n
 bit-of x y n h = omega (arith, mul-le-mul {n₁ = x % 2} {n₂ = 1} (omega arith) h)
 
+mark-fits : (x : ℕ) → Fits w16 (x % 2 * half)
+mark-fits x = omega arith
+
+sum-small : (x y : ℕ) → x ≤ 255 → x + y % 2 * half ≤ 511
+sum-small x y h = omega arith
+
+sum-fits : (x y : ℕ) → x ≤ 255 → Fits w16 (x + y % 2 * half)
+sum-fits x y h = omega arith
+
 -- a co-phase is a byte
 byte : (s : tie.Start) → Fits w8 (getD (s .args .t1) (s .args .q) 0)
-byte s = search needs
+byte s = elem-fits w8 w8 (s .args .t1) (s .good .0 .0) (s .args .q) (s .good .0 .1 .1) tt
 
 -- what is added
 small : (s : tie.Start) → s .args .code / 256 % 2 * getD (s .args .t1) (s .args .q) 0 ≤ 255
-small s = bit-of (s .args .code / 256) _ 255 (omega (arith, byte s .fits))
+small s = bit-of (s .args .code / 256) _ 255 (le-of-suc-le-suc (byte s .fits))
 
 array-read-c : tie.Need-array-read-c
-array-read-c c = search needs
+array-read-c c = c .pre
 
 cast-c : tie.Need-cast-c
-cast-c c = search needs
+cast-c c = fits-widen tt (byte c)
 
 cast-half : tie.Need-cast-half
-cast-half c = search needs
+cast-half c = fits-lit tt
 
 mul-result : tie.Need-mul-result
-mul-result c = omega (arith, small (c .before))
+mul-result c = fits-le (small (c .before)) (fits-lit tt)
 
 cast-result : tie.Need-cast-result
-cast-result c = search needs
+cast-result c = fits-le (le-of-lt (c .before .pre)) (fits-lit tt)
 
 shr-result : tie.Need-shr-result
-shr-result c = search needs
+shr-result c = le-trans (c .before .pre) (lit≤ tt)
 
 mul-result-2 : tie.Need-mul-result-2
-mul-result-2 c = search needs
+mul-result-2 c = mark-fits _
 
 add-result : tie.Need-add-result
-add-result c = omega (arith, small (c .before))
+add-result c = sum-fits _ _ (small (c .before))
 
 returns : tie.Need-returns
 unfolding coAt
-returns c = (refl, omega (arith, small (c .before)))
+returns c = (refl, sum-small _ _ (small (c .before)))
 
 pub co-phase-spec : {M : Type 1} → statement M
 co-phase-spec =

@@ -9,9 +9,9 @@ use lib.ListN.{length}
 use Rattle.turn.specs.Column.{product, grid, column}
 use Rattle.plan.specs.Drawing.{coAt, coRow, stepX, stepY}
 use Rattle.writer.specs.Blocks.{placed, Laid}
-use Rattle.writer.proofs.Numbers.{falls, next-within, next-fits, byte-fits, byte-below, even-below, even-fits, odd-below}
-use Rattle.writer.proofs.Numbers.{odd-fits, none-yet, pair-within, pair-end, first-within, first-fits, second-within}
-use Rattle.writer.proofs.Numbers.{second-fits}
+use Rattle.writer.proofs.Numbers.{falls, next-within, next-fits, byte-fits, byte-below, even-below, even-fits}
+use Rattle.writer.proofs.Numbers.{odd-below, odd-fits, none-yet, pair-within, pair-end, first-within, first-fits}
+use Rattle.writer.proofs.Numbers.{second-within, second-fits}
 use Rattle.writer.proofs.Laid.{laid-none, laid-block, laid-pair}
 use Rattle.writer.proofs.fill.column.Statement.{statement}
 use Rattle.writer.proofs.fill.column.Tie as tie
@@ -57,8 +57,8 @@ first-laid c =
     let s = t .before .before .before in
     let a = s .args in
     let drawn = d .draw .ensures .0 ∙ ap (placed 16 (a .w) _ _) (d .before .before .co-phase .ensures .0) in
-    laid-block (t .before .loop .out) (t .before .loop .to) (a .h / a .w) (a .w) (stepX (a .step)) (stepY (a .step)) _ (a .h)
-    drawn (c .put .ensures) (c .put .kept .0) (s .pre .1) (s .pre .4) (s .pre .3)
+    laid-block (t .before .loop .out) (t .before .loop .to) (a .h / a .w) (a .w) (stepX (a .step)) (stepY (a .step)) _
+    (a .h) drawn (c .put .ensures) (c .put .kept .0) (s .pre .1) (s .pre .4) (s .pre .3)
     (first-within (t .before .loop .to) (a .h) _ (room t))
 
 second-laid : (c : tie.After-put2 Inv-loop μ-loop) → let one = first-of c in
@@ -157,8 +157,9 @@ returns c =
     let a = c .before .before .before .args in
     let all : l .q ≡ a .n = le-antisymm (l .inv .0) (c .loop-test .left) in
     let end : l .to ≡ a .at + 2 * (a .n * a .h) = rw all at (l .inv .1) in
-    subst₂ (λ (q to : ℕ). Laid (now (a .out)) (a .at) (column (coRow (a .co) (a .code) (2 * q)) (beam (a .h) (a .w) (a .step)))
-    to (l .out)) all end (l .inv .2)
+    let b = beam (a .h) (a .w) (a .step) in
+    subst₂ (λ (q to : ℕ). Laid (now (a .out)) (a .at) (column (coRow (a .co) (a .code) (2 * q)) b) to (l .out)) all end
+    (l .inv .2)
 
 pub column-spec : {M : Type 1} → statement M
 column-spec =

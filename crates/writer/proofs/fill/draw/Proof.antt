@@ -1,14 +1,17 @@
 -- `fill::draw` meets its contract: each turn stores one place more of both blocks, and nothing leaves sixteen bits.
-use mathlib.Core.Path.{_≡_, refl, sym, ap₂, _∙_}
+use mathlib.Core.Path.{_≡_, refl, _∙_}
 use mathlib.Core.List.{_++_, append-nil}
-use Prim.Native.Nat.{ℕ, _+_, _-_, _*_, _/_, _≤_}
-use native.Mathlib.Omega.{arith}
-use lib.ListN.{length, take, drop, getD, replicate, length-set}
-use Rattle.turn.specs.Phase.{phase}
+use Prim.Native.Nat.{_-_, _≤_}
+use native.Mathlib.Nat.{le-antisymm}
+use lib.Dec.{lit<, lit≤}
+use lib.ListN.{length, take, drop, replicate, length-set}
+use mir.Facts.{fits-lit}
 use Rattle.ground.proofs.Written.{stored, stored-all}
 use Rattle.writer.specs.Blocks.{placed}
-use Rattle.writer.proofs.Rows.{rest-mod, row-within, product-small, across-small, down-small}
-use Rattle.writer.proofs.Placed.{length-placed, placed-entry}
+use Rattle.writer.proofs.Numbers.{falls, next-within, next-fits}
+use Rattle.writer.proofs.Placed.{length-placed}
+use Rattle.writer.proofs.Rows.{phase-fits, length-fits, place-fits, row-within, product-fits, row-fits, across-fits}
+use Rattle.writer.proofs.Rows.{down-fits, beam-fits, sum-fits, entry-placed}
 use Rattle.writer.proofs.fill.draw.Statement.{statement}
 use Rattle.writer.proofs.fill.draw.Tie as tie
 
@@ -23,121 +26,103 @@ Inv-loop w x y c d k n first₀ second₀ i₀ first second i =
 abbrev μ-loop : tie.MeasureT-loop
 μ-loop w x y c d k n first₀ second₀ i₀ first second i = 16 - i
 
--- what a turn knows, and what it makes of it
-module _ (t : tie.In-loop Inv-loop μ-loop) where
-  abbrev i : ℕ
-  i = t .before .loop .i
-
-  abbrev k : ℕ
-  k = t .before .before .shares .result
-
-  abbrev w : ℕ
-  w = t .before .before .before .args .w
-
-  abbrev x : ℕ
-  x = t .before .before .before .args .x
-
-  abbrev y : ℕ
-  y = t .before .before .before .args .y
-
-  across : i * k / 32 * x ≤ 3825
-  across = across-small w k (t .before .before .shares .ensures) i (t .loop-test .taken) x (t .before .before .before .pre .2)
-
-  down : (i - i * k / 32 * w) * y ≤ 765
-  down =
-      let p = t .before .before .before .pre in
-      down-small w k (t .before .before .shares .ensures) i (t .loop-test .taken) (p .0) (p .1) y (p .3)
-
-  -- the entry that is stored
-  entry : (c : ℕ) → phase (i * k / 32 * x + (i - i * k / 32 * w) * y + c) ≡ getD (placed 16 w x y c) i 0
-  entry c =
-      let s = t .before .before .shares .ensures in
-      let h = t .loop-test .taken in
-      ap₂ (λ (a b : ℕ). phase (a * x + b * y + c)) (s .same i h) (rest-mod w k s i h) ∙ sym (placed-entry w x y c 16 i h)
-
 shares-requires : tie.Need-shares-requires Inv-loop μ-loop
 shares-requires c κs = (c .pre .0, c .pre .1)
 
 cast-n : tie.Need-cast-n Inv-loop μ-loop
-cast-n c = omega (arith, c .before .pre .1)
+cast-n c = length-fits _ (c .before .pre .1)
 
 loop-holds : tie.Need-loop-holds Inv-loop μ-loop
-loop-holds c = (omega arith, refl, refl, refl, refl)
+loop-holds c = (lit≤ tt, refl, refl, refl, refl)
 
 cast-j : tie.Need-cast-j Inv-loop μ-loop
-cast-j c = omega arith
+cast-j c = place-fits _ (c .loop-test .taken)
 
 mul-a : tie.Need-mul-a Inv-loop μ-loop
-mul-a c = omega (arith, product-small _ _ (c .before .before .shares .ensures) _ (c .loop-test .taken))
+mul-a c = product-fits _ _ (c .before .before .shares .ensures) _ (c .loop-test .taken)
 
 mul-b : tie.Need-mul-b Inv-loop μ-loop
-mul-b c = omega (arith, row-within _ _ (c .before .before .shares .ensures) _ (c .loop-test .taken))
+mul-b c = row-fits _ _ (c .before .before .shares .ensures) _ (c .loop-test .taken)
 
 sub-b : tie.Need-sub-b Inv-loop μ-loop
 sub-b c = row-within _ _ (c .before .before .shares .ensures) _ (c .loop-test .taken)
 
 mul-z : tie.Need-mul-z Inv-loop μ-loop
-mul-z c = omega (arith, across c)
+mul-z c =
+    let p = c .before .before .before .pre in
+    across-fits _ _ (c .before .before .shares .ensures) _ (c .loop-test .taken) (p .0) (p .1) _ _ (p .2) (p .3)
 
 mul-z-2 : tie.Need-mul-z-2 Inv-loop μ-loop
-mul-z-2 c = omega (arith, down c)
+mul-z-2 c =
+    let p = c .before .before .before .pre in
+    down-fits _ _ (c .before .before .shares .ensures) _ (c .loop-test .taken) (p .0) (p .1) _ _ (p .2) (p .3)
 
 add-z : tie.Need-add-z Inv-loop μ-loop
-add-z c = omega (arith, across c, down c)
+add-z c =
+    let p = c .before .before .before .pre in
+    beam-fits _ _ (c .before .before .shares .ensures) _ (c .loop-test .taken) (p .0) (p .1) _ _ (p .2) (p .3)
 
 add-first : tie.Need-add-first Inv-loop μ-loop
-add-first c = omega (arith, across c, down c, c .before .before .before .pre .4)
+add-first c =
+    let p = c .before .before .before .pre in
+    sum-fits _ _ (c .before .before .shares .ensures) _ (c .loop-test .taken) (p .0) (p .1) _ _ (p .2) (p .3) _ (p .4)
 
 cast-first : tie.Need-cast-first Inv-loop μ-loop
-cast-first c = omega arith
+cast-first c = fits-lit tt
 
 rem-first : tie.Need-rem-first Inv-loop μ-loop
-rem-first c = omega arith
+rem-first c = lit< tt
 
 cast-first-2 : tie.Need-cast-first-2 Inv-loop μ-loop
-cast-first-2 c = omega arith
+cast-first-2 c = phase-fits _
 
 array-write-first : tie.Need-array-write-first Inv-loop μ-loop
 array-write-first c = c .loop-test .taken
 
 add-second : tie.Need-add-second Inv-loop μ-loop
-add-second c = omega (arith, across c, down c, c .before .before .before .pre .5)
+add-second c =
+    let p = c .before .before .before .pre in
+    sum-fits _ _ (c .before .before .shares .ensures) _ (c .loop-test .taken) (p .0) (p .1) _ _ (p .2) (p .3) _ (p .5)
 
 cast-second : tie.Need-cast-second Inv-loop μ-loop
-cast-second c = omega arith
+cast-second c = fits-lit tt
 
 rem-second : tie.Need-rem-second Inv-loop μ-loop
-rem-second c = omega arith
+rem-second c = lit< tt
 
 cast-second-2 : tie.Need-cast-second-2 Inv-loop μ-loop
-cast-second-2 c = omega arith
+cast-second-2 c = phase-fits _
 
 array-write-second : tie.Need-array-write-second Inv-loop μ-loop
 array-write-second c = c .loop-test .taken
 
 add-i : tie.Need-add-i Inv-loop μ-loop
-add-i c = omega arith
+add-i c = next-fits 16 _ (lit≤ tt) (c .loop-test .taken)
 
 loop-less : tie.Need-loop-less Inv-loop μ-loop
-loop-less c = omega arith
+loop-less c = falls 16 _ (c .loop-test .taken)
 
 loop-again : tie.Need-loop-again Inv-loop μ-loop
 loop-again c =
     let l = c .before .loop in
+    let s = c .before .before .shares .ensures in
     let a = c .before .before .before .args in
     let h = c .loop-test .taken in (
-      omega arith,
-      stored (replicate 16 0) _ 16 (l .i) 0 (l .inv .1) (entry c (a .c)) (length-placed _ _ _ _ 16) h (omega arith),
+      next-within 16 _ h,
+      stored (replicate 16 0) _ 16 (l .i) 0 (l .inv .1) (entry-placed _ _ s _ h (a .x) (a .y) (a .c))
+          (length-placed _ _ _ _ 16) h (lit≤ tt),
       simp length-set (l .inv .2),
-      stored (replicate 16 0) _ 16 (l .i) 0 (l .inv .3) (entry c (a .d)) (length-placed _ _ _ _ 16) h (omega arith),
+      stored (replicate 16 0) _ 16 (l .i) 0 (l .inv .3) (entry-placed _ _ s _ h (a .x) (a .y) (a .d))
+          (length-placed _ _ _ _ 16) h (lit≤ tt),
       simp length-set (l .inv .4),
     )
 
 returns : tie.Need-returns Inv-loop μ-loop
 returns c =
-    let l = c .before .loop in (
-      stored-all (replicate 16 0) _ 16 (l .i) (l .inv .1) (length-placed _ _ _ _ 16) (omega arith) ∙ append-nil _,
-      stored-all (replicate 16 0) _ 16 (l .i) (l .inv .3) (length-placed _ _ _ _ 16) (omega arith) ∙ append-nil _,
+    let l = c .before .loop in
+    let all : l .i ≡ 16 = le-antisymm (l .inv .0) (c .loop-test .left) in (
+      stored-all (replicate 16 0) _ 16 (l .i) (l .inv .1) (length-placed _ _ _ _ 16) all ∙ append-nil _,
+      stored-all (replicate 16 0) _ 16 (l .i) (l .inv .3) (length-placed _ _ _ _ 16) all ∙ append-nil _,
     )
 
 pub draw-spec : {M : Type 1} → statement M

@@ -3,9 +3,12 @@ use mathlib.Core.Path.{_≡_, refl, sym, _∙_}
 use mathlib.Core.List.{_++_, append-nil}
 use Prim.Native.Nat.{_-_, _≤_}
 use native.Mathlib.Omega.{arith}
+use native.Mathlib.Nat.{le-antisymm}
+use lib.Dec.{lit≤}
 use lib.ListN.{length, take, drop, length-set, length-drop}
 use lib.Seq.{length-take-le, getD-take, getD-drop}
 use Rattle.ground.proofs.Written.{stored, stored-all}
+use Rattle.writer.proofs.Numbers.{falls, next-within, next-fits, sixteen-within, sixteen-fits}
 use Rattle.writer.proofs.fill.places.Statement.{statement}
 use Rattle.writer.proofs.fill.places.Tie as tie
 
@@ -20,22 +23,26 @@ long : (s : tie.Start Inv-loop μ-loop) → length (take 16 (drop (s .args .at) 
 long s = length-take-le 16 (drop (s .args .at) (s .args .out .now)) (rw length-drop (omega (arith, s .pre)))
 
 loop-holds : tie.Need-loop-holds Inv-loop μ-loop
-loop-holds c = (omega arith, refl, refl)
+loop-holds c = (lit≤ tt, refl, refl)
 
 add-kept : tie.Need-add-kept Inv-loop μ-loop
-add-kept c = omega arith
+add-kept c =
+    let s = c .before .before in
+    sixteen-fits _ _ _ (c .loop-test .taken) (s .pre) (s .good .0 .0)
 
 shared-slice-read-kept : tie.Need-shared-slice-read-kept Inv-loop μ-loop
-shared-slice-read-kept c = omega arith
+shared-slice-read-kept c =
+    let s = c .before .before .before in
+    sixteen-within (s .args .at) _ _ (c .before .loop-test .taken) (s .pre) _ refl
 
 array-write-kept : tie.Need-array-write-kept Inv-loop μ-loop
-array-write-kept c = omega arith
+array-write-kept c = c .before .loop-test .taken
 
 add-i : tie.Need-add-i Inv-loop μ-loop
-add-i c = omega arith
+add-i c = next-fits 16 _ (lit≤ tt) (c .before .loop-test .taken)
 
 loop-less : tie.Need-loop-less Inv-loop μ-loop
-loop-less c = omega arith
+loop-less c = falls 16 _ (c .before .loop-test .taken)
 
 loop-again : tie.Need-loop-again Inv-loop μ-loop
 loop-again c =
@@ -44,15 +51,16 @@ loop-again c =
     let a = s .args in
     let h = c .before .loop-test .taken in
     let entry = sym (getD-take 16 (drop (a .at) (a .out .now)) (l .i) 0 h ∙ getD-drop (a .at) (a .out .now) (l .i) 0) in (
-      omega arith,
-      stored _ _ 16 (l .i) 0 (l .inv .1) entry (long s) h (omega arith),
+      next-within 16 _ h,
+      stored _ _ 16 (l .i) 0 (l .inv .1) entry (long s) h (lit≤ tt),
       simp length-set (l .inv .2),
     )
 
 returns : tie.Need-returns Inv-loop μ-loop
 returns c =
     let l = c .before .loop in
-    stored-all _ _ 16 (l .i) (l .inv .1) (long (c .before .before)) (omega arith) ∙ append-nil _
+    stored-all _ _ 16 (l .i) (l .inv .1) (long (c .before .before))
+    (le-antisymm (l .inv .0) (c .loop-test .left)) ∙ append-nil _
 
 pub places-spec : {M : Type 1} → statement M
 places-spec =

@@ -3,9 +3,12 @@ use mathlib.Core.Path.{_≡_, refl}
 use mathlib.Core.List.{[]}
 use Prim.Native.Nat.{_-_, _≤_}
 use native.Mathlib.Omega.{arith}
+use native.Mathlib.Nat.{le-antisymm}
+use lib.Dec.{lit≤}
 use lib.ListN.{length, length-set}
 use lib.Seq.{paste, paste-zero}
 use Rattle.ground.proofs.Written.{stored-at, stored-all-at}
+use Rattle.writer.proofs.Numbers.{falls, next-within, next-fits, sixteen-within, sixteen-fits}
 use Rattle.writer.proofs.fill.put.Statement.{statement}
 use Rattle.writer.proofs.fill.put.Tie as tie
 
@@ -16,28 +19,32 @@ abbrev μ-loop : tie.MeasureT-loop
 μ-loop out₀ at block i₀ out i = 16 - i
 
 loop-holds : tie.Need-loop-holds Inv-loop μ-loop
-loop-holds c = (omega arith, paste-zero _ (c .args .at) [], refl)
+loop-holds c = (lit≤ tt, paste-zero _ (c .args .at) [], refl)
 
 array-read-out : tie.Need-array-read-out Inv-loop μ-loop
-array-read-out c = omega arith
+array-read-out c = c .loop-test .taken
 
 add-out : tie.Need-add-out Inv-loop μ-loop
-add-out c = omega arith
+add-out c =
+    let s = c .before .before in
+    sixteen-fits _ _ _ (c .loop-test .taken) (s .pre) (s .good .0 .0)
 
 slice-write-out : tie.Need-slice-write-out Inv-loop μ-loop
-slice-write-out c = omega arith
+slice-write-out c =
+    let s = c .before .before in
+    sixteen-within (s .args .at) _ _ (c .loop-test .taken) (s .pre) _ (c .before .loop .inv .2)
 
 add-i : tie.Need-add-i Inv-loop μ-loop
-add-i c = omega arith
+add-i c = next-fits 16 _ (lit≤ tt) (c .loop-test .taken)
 
 loop-less : tie.Need-loop-less Inv-loop μ-loop
-loop-less c = omega arith
+loop-less c = falls 16 _ (c .loop-test .taken)
 
 loop-again : tie.Need-loop-again Inv-loop μ-loop
 loop-again c =
     let l = c .before .loop in
     let a = c .before .before .args in (
-      omega arith,
+      next-within 16 _ (c .loop-test .taken),
       stored-at (a .out .now) (a .t3) (a .at) 16 (l .i) 0 (l .inv .1) refl (omega arith) (c .loop-test .taken)
           (c .before .before .pre),
       simp length-set (l .inv .2),
@@ -50,7 +57,7 @@ returns : tie.Need-returns Inv-loop μ-loop
 returns c =
     let a = c .before .before .args in
     stored-all-at (a .out .now) (a .t3) (a .at) 16 (c .before .loop .i) (c .before .loop .inv .1) (omega arith)
-    (omega arith)
+    (le-antisymm (c .before .loop .inv .0) (c .loop-test .left))
 
 pub put-spec : {M : Type 1} → statement M
 put-spec =
