@@ -3,5 +3,6 @@ pub mod Known
 pub mod Rows
 pub mod Ranked
 pub mod Given
+pub mod ByRank
 pub mod Counts
 pub mod Unique

@@ -108,38 +108,35 @@ pub fn mask_bytes(n1: u32, n2: u32) -> u32
     s.bytes
 }
 
-// No values at all.
-fn no_values(s: Sizes) -> Ranges
-    ensures { λ a. ⌜ a ≡ record { sizes = s; i11 = 0; i12 = 0; i13 = 0; i2 = 0 } ⌝ }
-{
-    Ranges {
-        sizes: s,
-        i11: 0,
-        i12: 0,
-        i13: 0,
-        i2: 0,
-    }
-}
-
 // What follows from a setting, and how many values each index has: 0 to one less is in range. The values are 0 where the
 // setting, the mode or the rank is none. (2,1) with mode 1 and two layers has 8, 1, 2 and 2.
 pub fn ranges_of(n1: u32, n2: u32, mode: u32, v: u32) -> Ranges
     ensures { λ a. ⌜ a ≡ rangesOf n1 n2 mode v ⌝ }
 {
     let s = sizes_of(n1, n2);
-    let p = s.ports;
-    if !values::is_ranked(p, mode, v) {
-        return no_values(s);
+    if !values::is_ranked(s.ports, mode, v) {
+        return Ranges {
+            sizes: s,
+            i11: 0,
+            i12: 0,
+            i13: 0,
+            i2: 0,
+        };
     }
-    let i11 = values::of_i11(n1, n2, mode, v, p, s.across);
-    let i12 = values::of_i12(n1, n2, mode, v, s.down);
-    let i13 = values::of_i13(n1, n2, v, p);
-    let i2 = values::of_i2(n1, mode, v);
-    Ranges {
-        sizes: s,
-        i11: i11,
-        i12: i12,
-        i13: i13,
-        i2: i2,
+    if v <= 2 {
+        return values::one_or_two(n1, n2, mode, v, s);
     }
+    if v <= 4 {
+        return values::three_or_four(n1, n2, mode, v, s);
+    }
+    if v <= 6 {
+        return Ranges {
+            sizes: s,
+            i11: s.across,
+            i12: s.down,
+            i13: 1,
+            i2: 2,
+        };
+    }
+    values::seven_or_eight(n1, n2, mode, v, s)
 }

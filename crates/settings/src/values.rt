@@ -2,9 +2,10 @@
 ghost use mathlib.Core.Path.{_≡_};
 ghost use mathlib.Core.Bool.{true, _&&_};
 ghost use Prim.Native.Nat.{_≤_};
-ghost use Rattle.settings.specs.Settings.{isSetting, ports, across, down};
-ghost use Rattle.settings.specs.Ranges.{isMode, isRank, modeTwo, halfLength};
-ghost use Rattle.settings.specs.Ranges.{i11Values, i12Values, i13Values, i2Values};
+ghost use Rattle.settings.specs.Settings.{sizesOf};
+ghost use Rattle.settings.specs.Ranges.{isMode, isRank, isRanked, modeTwo, halfLength, rangesOf};
+use crate::Ranges;
+use crate::Sizes;
 
 // Mode 1 or 2, and 1 to 8 layers, at most P. A pair that is no setting has no ports, and so no rank.
 pub fn is_ranked(p: u32, mode: u32, v: u32) -> bool
@@ -51,73 +52,157 @@ pub fn is_half_length(p: u32, v: u32) -> bool
     16 <= p
 }
 
-// The values of i11, on P ports with w beams across: w, or half of them.
-pub fn of_i11(n1: u32, n2: u32, mode: u32, v: u32, p: u32, w: u32) -> u32
-    requires { ⌜ (p ≡ ports n1 n2) × (w ≡ across n1) ⌝ }
-    ensures { λ n. ⌜ n ≡ i11Values n1 n2 mode v ⌝ }
+// Where mode 2 acts. One beam down is not halved.
+fn in_mode_two(n1: u32, n2: u32, mode: u32, v: u32, s: Sizes) -> Ranges
+    requires { ⌜ (s ≡ sizesOf n1 n2) × (isRanked n1 n2 mode v ≡ true) × (modeTwo n1 mode v ≡ true) ⌝ }
+    ensures { λ a. ⌜ a ≡ rangesOf n1 n2 mode v ⌝ }
 {
-    if is_mode_two(n1, mode, v) {
-        return w / 2;
+    let p = s.ports;
+    let i11 = s.across / 2;
+    let i12 = (s.down + 1) / 2;
+    if v == 1 {
+        return Ranges {
+            sizes: s,
+            i11: i11,
+            i12: i12,
+            i13: 1,
+            i2: 16,
+        };
     }
-    if is_half_length(p, v) {
-        return w / 2;
+    if p == 4 {
+        return Ranges {
+            sizes: s,
+            i11: i11,
+            i12: i12,
+            i13: 2,
+            i2: 8,
+        };
     }
-    if v < 7 {
-        return w;
+    Ranges {
+        sizes: s,
+        i11: i11,
+        i12: i12,
+        i13: 4,
+        i2: 8,
     }
-    if n1 != 4 {
-        return w;
-    }
-    if n2 == 1 { w / 2 } else { w }
 }
 
-// The values of i12, with w beams down: w, or half of them.
-pub fn of_i12(n1: u32, n2: u32, mode: u32, v: u32, w: u32) -> u32
-    requires { ⌜ w ≡ down n2 ⌝ }
-    ensures { λ n. ⌜ n ≡ i12Values n1 n2 mode v ⌝ }
+// One and two layers.
+pub fn one_or_two(n1: u32, n2: u32, mode: u32, v: u32, s: Sizes) -> Ranges
+    requires { ⌜ (s ≡ sizesOf n1 n2) × (isRanked n1 n2 mode v ≡ true) × (v ≤ 2) ⌝ }
+    ensures { λ a. ⌜ a ≡ rangesOf n1 n2 mode v ⌝ }
 {
+    let p = s.ports;
     if is_mode_two(n1, mode, v) {
-        return if 1 < n2 { w / 2 } else { w };
-    }
-    if v < 7 {
-        return w;
-    }
-    if n1 <= 2 {
-        return w;
-    }
-    if n2 == 2 { w / 2 } else { w }
-}
-
-// The values of i13, on P ports: as many as rows of k, and four for half-length beams. Above eight ports there are four.
-// At four and eight ports there is one for each antenna at v = 2, and one fewer at v = 3 and 4, which leave (0,0) out.
-pub fn of_i13(n1: u32, n2: u32, v: u32, p: u32) -> u32
-    requires { ⌜ (isSetting n1 n2 ≡ true) × (1 ≤ v) × (p ≡ ports n1 n2) ⌝ }
-    ensures { λ n. ⌜ n ≡ i13Values n1 n2 v ⌝ }
-{
-    if p == 2 {
-        return 1;
+        return in_mode_two(n1, n2, mode, v, s);
     }
     if v == 1 {
-        return 1;
+        return Ranges {
+            sizes: s,
+            i11: s.across,
+            i12: s.down,
+            i13: 1,
+            i2: 4,
+        };
     }
-    if 5 <= v {
-        return 1;
+    if p < 8 {
+        return Ranges {
+            sizes: s,
+            i11: s.across,
+            i12: s.down,
+            i13: p / 2,
+            i2: 2,
+        };
     }
-    if 8 < p {
-        return 4;
+    Ranges {
+        sizes: s,
+        i11: s.across,
+        i12: s.down,
+        i13: 4,
+        i2: 2,
     }
-    if v == 2 {
-        return p / 2;
-    }
-    p / 2 - 1
 }
 
-// The values of i2.
-pub fn of_i2(n1: u32, mode: u32, v: u32) -> u32
-    ensures { λ n. ⌜ n ≡ i2Values n1 mode v ⌝ }
+// Three and four layers. Beams are of half length from 16 ports on.
+pub fn three_or_four(n1: u32, n2: u32, mode: u32, v: u32, s: Sizes) -> Ranges
+    requires { ⌜ (s ≡ sizesOf n1 n2) × (isRanked n1 n2 mode v ≡ true) × (3 ≤ v) × (v ≤ 4) ⌝ }
+    ensures { λ a. ⌜ a ≡ rangesOf n1 n2 mode v ⌝ }
 {
-    if is_mode_two(n1, mode, v) {
-        return if v == 1 { 16 } else { 8 };
+    let p = s.ports;
+    if 16 <= p {
+        return Ranges {
+            sizes: s,
+            i11: s.across / 2,
+            i12: s.down,
+            i13: 4,
+            i2: 2,
+        };
     }
-    if v == 1 { 4 } else { 2 }
+    if p == 8 {
+        return Ranges {
+            sizes: s,
+            i11: s.across,
+            i12: s.down,
+            i13: 3,
+            i2: 2,
+        };
+    }
+    if p == 4 {
+        return Ranges {
+            sizes: s,
+            i11: s.across,
+            i12: s.down,
+            i13: 1,
+            i2: 2,
+        };
+    }
+    Ranges {
+        sizes: s,
+        i11: s.across,
+        i12: s.down,
+        i13: 4,
+        i2: 2,
+    }
+}
+
+// Seven and eight layers. With N2 other than 2, (4,1) alone has eight ports.
+pub fn seven_or_eight(n1: u32, n2: u32, mode: u32, v: u32, s: Sizes) -> Ranges
+    requires { ⌜ (s ≡ sizesOf n1 n2) × (isRanked n1 n2 mode v ≡ true) × (7 ≤ v) ⌝ }
+    ensures { λ a. ⌜ a ≡ rangesOf n1 n2 mode v ⌝ }
+{
+    let p = s.ports;
+    if n2 == 2 {
+        if 2 < n1 {
+            return Ranges {
+                sizes: s,
+                i11: s.across,
+                i12: s.down / 2,
+                i13: 1,
+                i2: 2,
+            };
+        }
+        return Ranges {
+            sizes: s,
+            i11: s.across,
+            i12: s.down,
+            i13: 1,
+            i2: 2,
+        };
+    }
+    if p == 8 {
+        return Ranges {
+            sizes: s,
+            i11: s.across / 2,
+            i12: s.down,
+            i13: 1,
+            i2: 2,
+        };
+    }
+    Ranges {
+        sizes: s,
+        i11: s.across,
+        i12: s.down,
+        i13: 1,
+        i2: 2,
+    }
 }
