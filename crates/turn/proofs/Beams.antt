@@ -1,4 +1,4 @@
--- Two beams of one setting that lie whole multiples of the oversampling apart, over N1 and N2. Assumes nothing.
+-- Two beams of one setting that lie whole multiples of the oversampling apart, over N1 and N2.
 use mathlib.Core.Path.{_≡_, sym, _∙_}
 use mathlib.Core.Logic.{_≢_, _⊎_, inl, inr}
 use mathlib.Core.List.{List, map}

@@ -1,5 +1,5 @@
 -- Differences that cancel: what the rounded weights need beyond exact zero. Weights cancel in opposites at any
--- phases, and in thirds at whole twelfths of a turn. Assumes nothing.
+-- phases, and in thirds at whole twelfths of a turn.
 use mathlib.Core.Path.{_≡_}
 use mathlib.Core.Logic.{_⊎_, inl, inr}
 use mathlib.Core.Bool.{Bool}

@@ -1,4 +1,4 @@
--- The differences of two columns are a product again, of the differences of their factors. Assumes nothing.
+-- The differences of two columns are a product again, of the differences of their factors.
 use mathlib.Core.Path.{_≡_, refl, sym, ap, ap₂, _∙_}
 use mathlib.Core.List.{List, [], _∷_, _++_, map}
 use Prim.Native.Nat.{ℕ, zero, suc, _+_, _*_, _/_, _%_}

@@ -1,4 +1,4 @@
--- What stands where in a column, and the phases of a beam as they are printed. Assumes nothing.
+-- What stands where in a column, and the phases of a beam as they are printed.
 use mathlib.Core.Path.{_≡_, sym, ap, ap₂, _∙_, subst}
 use mathlib.Core.Logic.{inl, inr}
 use mathlib.Core.List.{List, [], _∷_, _++_, map}

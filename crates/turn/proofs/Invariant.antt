@@ -1,4 +1,4 @@
--- Lists of phases that a turn by g only permutes, and what keeps that. Assumes nothing.
+-- Lists of phases that a turn by g only permutes, and what keeps that.
 use mathlib.Core.Path.{_≡_, refl, sym, ap, ap₂, _∙_}
 use mathlib.Core.List.{List, [], _∷_, _++_, map}
 use Prim.Native.Nat.{ℕ, zero, suc, _+_, _*_}

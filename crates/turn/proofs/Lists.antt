@@ -1,4 +1,4 @@
--- Lengths of the lists of phases, and what `map` does to them. Assumes nothing.
+-- Lengths of the lists of phases, and what `map` does to them.
 use mathlib.Core.Path.{_≡_, refl, ap, _∙_}
 use mathlib.Core.List.{List, [], _∷_, _++_, map}
 use Prim.Native.Nat.{ℕ, zero, suc, _+_, _*_, _<_}

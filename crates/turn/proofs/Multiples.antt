@@ -1,4 +1,4 @@
--- Multiples of a number stay multiples in steps, products and columns. Assumes nothing.
+-- Multiples of a number stay multiples in steps, products and columns.
 use mathlib.Core.Path.{_≡_, _∙_}
 use mathlib.Core.List.{List, map}
 use Prim.Native.Nat.{ℕ, zero, suc, _+_, _*_, _/_, _%_, _<_}

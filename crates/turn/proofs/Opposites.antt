@@ -1,4 +1,4 @@
--- Co-phases of which some are opposite: two lists that agree as often as they are opposite. Assumes nothing.
+-- Co-phases of which some are opposite: two lists that agree as often as they are opposite.
 use mathlib.Core.Path.{_≡_, sym, ap, ap₂, _∙_}
 use mathlib.Core.Bool.{Bool, true, false, not, cond}
 use mathlib.Core.List.{List, [], _∷_}

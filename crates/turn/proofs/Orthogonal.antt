@@ -1,5 +1,5 @@
 -- Columns are exactly orthogonal where their beams lie whole oversampling steps apart, and where their co-phases agree
--- as often as they are opposite. Assumes nothing.
+-- as often as they are opposite.
 use mathlib.Core.Path.{_≡_, refl, ap₂, subst}
 use mathlib.Core.Logic.{_≢_}
 use mathlib.Core.Bool.{Bool}

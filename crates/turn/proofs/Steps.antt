@@ -1,5 +1,5 @@
 -- In one direction of n antennas and n·o beams: the steps of two beams that lie whole multiples of the oversampling o
--- apart. Assumes nothing.
+-- apart.
 use mathlib.Core.Path.{_≡_, sym, ap, _∙_, subst}
 use mathlib.Core.Logic.{_≢_, inl, inr}
 use Prim.Native.Nat.{ℕ, zero, suc, _+_, _-_, _*_, _/_, _%_, _<_}

@@ -1,5 +1,4 @@
 -- Each public function of the crate has one outcome on every input: any two that its contract admits are equal.
--- Assumes nothing.
 use mathlib.Core.Path.{_≡_, sym, _∙_}
 use Prim.Native.Nat.{ℕ}
 use Rattle.ground.specs.Unique.{Unique}

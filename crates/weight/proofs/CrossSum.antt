@@ -1,5 +1,5 @@
 -- Two columns whose differences cancel have a small cross-sum in 16-bit weights: port by port the product is near
--- radius times the weight at the difference, and these weights sum to zero. Assumes nothing.
+-- radius times the weight at the difference, and these weights sum to zero.
 use mathlib.Core.Path.{_≡_, sym, ap, _∙_, subst}
 use mathlib.Core.List.{List, [], _∷_, map}
 use Prim.Native.Nat.{ℕ, suc, _*_, _≤_, zero-le}

@@ -1,4 +1,4 @@
--- Laws of integers that the library has not. Assumes nothing.
+-- Laws of integers that the library has not.
 use mathlib.Core.Path.{_≡_, refl, sym, ap, ap₂, _∙_}
 use mathlib.Core.Bool.{Bool, true, false, cond}
 use Prim.Native.Nat.{ℕ, zero, suc, _+_, _-_, _*_, _≤_, _<_}

@@ -1,5 +1,5 @@
 -- Every number of the table passes the test of `Nearest`, or stands at a whole sixth of a turn, where it is exact. That
--- this makes it the nearest is argued in specs/Nearest.antt. Assumes nothing.
+-- this makes it the nearest is argued in specs/Nearest.antt.
 use mathlib.Core.Path.{_≡_, refl, ap, _∙_, subst}
 use mathlib.Core.Logic.{_≢_}
 use mathlib.Core.Bool.{Bool, _||_}

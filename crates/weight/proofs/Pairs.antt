@@ -1,4 +1,4 @@
--- Weights as they are stored: where the numbers of each stand, and what is read back. Assumes nothing.
+-- Weights as they are stored: where the numbers of each stand, and what is read back.
 use mathlib.Core.Path.{_≡_, refl, ap, _∙_}
 use mathlib.Core.List.{List, [], _∷_, _++_, zipWith}
 use Prim.Native.Nat.{ℕ, zero, suc, _+_, _*_, _/_, _<_}

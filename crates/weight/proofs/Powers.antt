@@ -1,4 +1,4 @@
--- The power of a port, summed over the layers, from the power of each weight. Assumes nothing.
+-- The power of a port, summed over the layers, from the power of each weight.
 use mathlib.Core.List.{List}
 use Prim.Native.Nat.{ℕ, zero, suc, _+_, _*_, _<_}
 use native.Mathlib.Nat.{suc-mul}

@@ -1,5 +1,5 @@
 -- conjugate(weight e) times weight g is near radius times the weight at g - e: tested on a quarter of a turn by a
--- quarter, and carried everywhere by the quarter rule. Assumes nothing.
+-- quarter, and carried everywhere by the quarter rule.
 use mathlib.Core.Path.{_≡_, refl, sym, ap, _∙_, subst, subst₃}
 use mathlib.Core.Bool.{Bool, true, false, _&&_}
 use mathlib.Core.List.{List, [], _∷_, zipWith}

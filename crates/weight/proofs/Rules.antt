@@ -1,4 +1,4 @@
--- The rules of the table, each by one test over the whole of it, which antt computes. Assumes nothing.
+-- The rules of the table, each by one test over the whole of it, which antt computes.
 use mathlib.Core.Path.{_≡_, refl, sym, ap, ap₂, _∙_, subst}
 use mathlib.Core.Bool.{Bool, _&&_}
 use mathlib.Core.List.{zipWith}

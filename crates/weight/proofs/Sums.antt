@@ -1,4 +1,4 @@
--- Over a list of phases that cancels, the weights sum to zero. Assumes nothing.
+-- Over a list of phases that cancels, the weights sum to zero.
 use mathlib.Core.Path.{_≡_, refl, sym, ap, ap₂, _∙_}
 use mathlib.Core.List.{List, [], _∷_}
 use Prim.Native.Nat.{ℕ, _+_}

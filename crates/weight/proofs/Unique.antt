@@ -1,5 +1,4 @@
 -- Each public function of the crate has one outcome on every input: any two that its contract admits are equal.
--- Assumes nothing.
 use mathlib.Core.Path.{sym, _∙_}
 use Rattle.ground.specs.Unique.{Unique}
 use Rattle.weight.proofs.Weight.of.Reads as of

@@ -1,5 +1,4 @@
 -- `pmi::main` stays within its arrays: what is read is no longer than the line's, and what is printed than the text's.
--- Assumes nothing.
 use mathlib.Core.Path.{sym}
 use Prim.Native.Nat.{_≤_}
 use native.Mathlib.Omega.{arith}

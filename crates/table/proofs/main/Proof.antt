@@ -1,4 +1,4 @@
--- `table::main` ends: the phases that are left get fewer. Assumes nothing.
+-- `table::main` ends: the phases that are left get fewer.
 use Prim.Native.Nat.{_≤_, _-_}
 use native.Mathlib.Omega.{arith}
 use Rattle.turn.specs.Phase.{turn}

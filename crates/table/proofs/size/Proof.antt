@@ -1,4 +1,4 @@
--- `table::size` gives the number without its sign: 64 bits hold a 16-bit number and its negative. Assumes nothing.
+-- `table::size` gives the number without its sign: 64 bits hold a 16-bit number and its negative.
 use mathlib.Core.Path.{_≡_, refl, sym, ap, _∙_, subst}
 use mathlib.Core.Bool.{true, false}
 use Prim.Native.Nat.{ℕ}

@@ -1,5 +1,5 @@
 -- `Weight::coarse` gives the weights at the whole 32nds of a turn as they are stored, which antt compares number by
--- number. Assumes nothing.
+-- number.
 use mathlib.Core.Path.{refl}
 use mathlib.Core.List.{zipWith}
 use Rattle.turn.specs.Column.{steps}

@@ -1,5 +1,5 @@
 -- `Weight::of` gives the definition's weight: its table holds the numbers of the definition's, which antt compares
--- one by one, and the index is the reduced phase twice over. Assumes nothing.
+-- one by one, and the index is the reduced phase twice over.
 use mathlib.Core.Path.{_≡_, ap, _∙_}
 use mathlib.Core.List.{zipWith}
 use Prim.Native.Nat.{ℕ, _+_, _*_, _^_, _<_}

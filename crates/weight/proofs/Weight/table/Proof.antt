@@ -1,4 +1,4 @@
--- `Weight::table` gives the definition's table as it is stored, which antt compares number by number. Assumes nothing.
+-- `Weight::table` gives the definition's table as it is stored, which antt compares number by number.
 use mathlib.Core.Path.{refl}
 use mathlib.Core.List.{zipWith}
 use Rattle.weight.specs.Table.{firstQuarter, firstHalf, xs, ys, table, numbers}
