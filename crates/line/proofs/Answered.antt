@@ -1,146 +1,139 @@
 -- What the printing program refuses: its masks bar nothing and its buffer has room, so that the report alone decides.
--- Assumes nothing.
 use mathlib.Core.Path.{_≡_, refl, sym, ap, _∙_, subst}
 use mathlib.Core.Logic.{_≢_}
 use mathlib.Core.Bool.{Bool, true, false, not, cond, _||_}
-use mathlib.Core.List.{List, [], _∷_, _++_, map}
-use Prim.Native.Nat.{ℕ, suc, _-_, _*_, _/_, _%_, _<_}
+use mathlib.Core.List.{List, [], _∷_, _++_}
+use Prim.Native.Nat.{ℕ, _-_, _*_, _/_, _%_, _<_, _≤_}
 use native.Mathlib.Nat.{mul-le-mul}
 use native.Mathlib.Omega.{arith}
-use lib.Dec.{T, T-not, eqb, ltb, eqb→eq}
-use lib.ListN.{length, getD, replicate, length-replicate, getD-replicate, List·getD-map}
-use borrow.Author.Tests.{not-false, eqb-true, eqb-false, eq-eqb, ltb-false, le-ltb}
-use Rattle.turn.proofs.Tests.{every as upTo, every-at as upTo-at}
-use Rattle.codebook.specs.declared.Report.{Report}
-use Rattle.codebook.specs.Settings.{some, isSetting, ports, twoPorts, maskBytes}
-use Rattle.codebook.specs.Columns.{beams}
-use Rattle.codebook.specs.Masks.{bitOf, bit, beamBit, twoPortBit, bitsRead, isZero, barred, rankBarred}
-use Rattle.codebook.specs.Refusals.{first, onSetting, onRank, onIndices, onAnswer, refusals, refusal, InRange}
-use Rattle.codebook.proofs.Booleans.{or-false}
-use Rattle.codebook.proofs.First.{None, none-zero}
-use Rattle.codebook.proofs.Known.{mask-bits, ports-few}
-use Rattle.codebook.proofs.Bounds.{two-ports-bit, two-ports-mask}
-use Rattle.codebook.proofs.Bits.{none, is-one, bit-within, beams-within}
-use Rattle.codebook.proofs.Passed.{early, early-in-range}
-use Rattle.line.specs.Form.{every}
-use Rattle.line.specs.Text.{fullMask, refusalOf}
-use Rattle.line.proofs.Composed.{first-passes}
+use lib.Dec.{T, T-not, eqb, eqb-refl, leb, leb→le, eqb→eq}
+use lib.ListN.{length, replicate, length-replicate, getD-replicate}
+use borrow.Author.Tests.{not-false, eq-eqb, ne-eqb, le-ltb}
+use Rattle.ground.specs.Lists.{some, each, every, among}
+use Rattle.ground.specs.First.{first, numbered, None}
+use Rattle.ground.proofs.Booleans.{cond-both}
+use Rattle.ground.proofs.Tests.{and-left, and-right, or-left, or-right, every-at}
+use Rattle.ground.proofs.First.{first-none, none-zero, none-within}
+use Rattle.settings.specs.Settings.{isSetting, ports, maskBytes}
+use Rattle.settings.specs.Ranges.{isRank}
+use Rattle.settings.proofs.Known.{ports-few}
+use Rattle.settings.proofs.Ranked.{rank-of}
+use Rattle.report.specs.declared.Report.{Report}
+use Rattle.report.specs.Rules.{rule, ownOrder, InRange}
+use Rattle.report.proofs.InRange.{in-range}
+use Rattle.plan.specs.Masks.{bitOf, bit, isZero, barred, rankBarred}
+use Rattle.plan.specs.Answer.{early, test, refusal}
+use Rattle.single.specs.Single.{order, single}
+use Rattle.single.proofs.Lawful.{single-lawful}
+use Rattle.line.specs.Prints.{fullMask, askedOf, refusalOf}
 
--- a test that cannot hold where none before it does may be left out
-first-without : (xs ys : List (Bool × ℕ)) (b : Bool) (k : ℕ) → (None xs → b ≡ false)
-    → first (xs ++ (b, k) ∷ ys) ≡ first (xs ++ ys)
+-- ---- the first of a list whose test holds
+
+-- a number whose test cannot hold where none before it does may be left out
+first-without : (test : ℕ → Bool) (xs ys : List ℕ) (k : ℕ) → (first test xs ≡ 0 → test k ≡ false)
+    → first test (xs ++ k ∷ ys) ≡ first test (xs ++ ys)
 unfolding first
-first-without [] ys b k h = rw (h tt)
-first-without (x ∷ xs) ys b k h = by-test (x .0) refl (λ e. first-without xs ys b k (λ n. h (e, n)))
+first-without test [] ys k h = rw (h refl)
+first-without test (x ∷ xs) ys k h = by-test (test x) h (first-without test xs ys k)
   where
-    by-test : (t : Bool) → x .0 ≡ t → (x .0 ≡ false → first (xs ++ (b, k) ∷ ys) ≡ first (xs ++ ys))
-        → cond t (x .1) (first (xs ++ (b, k) ∷ ys)) ≡ cond t (x .1) (first (xs ++ ys))
-    by-test true e later = refl
-    by-test false e later = later e
+    by-test : (b : Bool) → (cond b x (first test xs) ≡ 0 → test k ≡ false)
+        → ((first test xs ≡ 0 → test k ≡ false) → first test (xs ++ k ∷ ys) ≡ first test (xs ++ ys))
+        → cond b x (first test (xs ++ k ∷ ys)) ≡ cond b x (first test (xs ++ ys))
+    by-test true h later = refl
+    by-test false h later = later h
 
--- bit k of a byte of ones, and of a mask of them
+-- what every number of the list and 0 pass, the first does
+pub first-passes : (f test : ℕ → Bool) → T (f 0) → (ks : List ℕ) → T (each f ks) → T (f (first test ks))
+unfolding first each
+first-passes f test z [] t = z
+first-passes f test z (k ∷ ks) t =
+    cond-both (λ n. T (f n)) (test k) (and-left (f k) (each f ks) t)
+    (first-passes f test z ks (and-right (f k) (each f ks) t))
+
+-- ---- masks of ones
+
 ones-bit : (k : ℕ) → k < 8 → bitOf 255 k ≡ 1
-unfolding upTo
-ones-bit k h = eqb→eq (bitOf 255 k) 1 (upTo-at 8 (λ j. eqb (bitOf 255 j) 1) tt k h)
+unfolding every
+ones-bit k h = eqb→eq (bitOf 255 k) 1 (every-at 8 (λ j. eqb (bitOf 255 j) 1) tt k h)
 
-full-bit : (n k : ℕ) → k < 8 * n → bit (replicate n 255) k ≡ 1
-unfolding bit
-full-bit n k h = rw (getD-replicate {A = ℕ} n (k / 8) 255 0 (omega arith)) (ones-bit (k % 8) (omega arith))
+full-bit : (n k : ℕ) → k < 8 * n → isZero (replicate n 255) k ≡ false
+unfolding isZero bit
+full-bit n k h =
+    rw (getD-replicate {A = ℕ} n (k / 8) 255 0 (omega arith), ones-bit (k % 8) (omega arith))
 
-some-none : {A : Type 0} (test : A → Bool) (xs : List A) (x : A) → ((i : ℕ) → i < length xs → test (getD xs i x) ≡ false)
-    → some test xs ≡ false
-unfolding some
-some-none test [] x h = refl
-some-none test (y ∷ xs) x h = rw (h 0 (omega arith)) (some-none test xs x (λ i k. h (suc i) (omega arith)))
+not-barred : (mask ks : List ℕ) → ((k : ℕ) → T (among k ks) → isZero mask k ≡ false) → barred mask ks ≡ false
+unfolding barred some among
+not-barred mask [] h = refl
+not-barred mask (k ∷ ks) h =
+    rw (h k (or-left (eqb k k) (among k ks) (eqb-refl k)))
+    (not-barred mask ks (λ j t. h j (or-right (eqb j k) (among j ks) t)))
 
 module _ (r : Report) where
-  abbrev mask : List ℕ
-  mask = fullMask (r .n1) (r .n2)
+  abbrev tests : ℕ → Bool
+  tests = test single (askedOf r)
 
   -- ---- the tests of 3, 5, 10 and 11, where those before them fail
 
   -- the mask of a setting has the bytes that it needs
-  mask-is : isSetting (r .n1) (r .n2) ≡ true → mask ≡ replicate (maskBytes (r .n1) (r .n2)) 255
+  mask-is : isSetting (r .n1) (r .n2) ≡ true → fullMask (r .n1) (r .n2) ≡ replicate (maskBytes (r .n1) (r .n2)) 255
   unfolding fullMask
   mask-is e = rw e
 
-  sized : not (isSetting (r .n1) (r .n2)) ≡ false → not (eqb (length mask) (maskBytes (r .n1) (r .n2))) ≡ false
+  sized : first tests (1 ∷ 2 ∷ []) ≡ 0 → tests 3 ≡ false
+  unfolding test early rule numbered among
   sized e =
-      let size = ap length (mask-is (not-false _ e)) ∙ length-replicate (maskBytes (r .n1) (r .n2)) 255 in
+      let setting = not-false _ (first-none tests (1 ∷ 2 ∷ []) tt e .at 1 tt) in
+      let size = ap length (mask-is setting) ∙ length-replicate (maskBytes (r .n1) (r .n2)) 255 in
       rw (eq-eqb _ _ size)
 
   -- a rank that there is has its bit in the rank mask
-  abbrev noRank : Bool
-  noRank = eqb (r .v) 0 || ltb 8 (r .v) || ltb (ports (r .n1) (r .n2)) (r .v)
-
-  ranked : noRank ≡ false → rankBarred 255 r ≡ false
-  unfolding rankBarred
+  ranked : first tests (1 ∷ 2 ∷ 3 ∷ 4 ∷ []) ≡ 0 → tests 5 ≡ false
+  unfolding test early rule numbered among rankBarred
   ranked e =
-      let few = or-false (eqb (r .v) 0 || ltb 8 (r .v)) (ltb (ports (r .n1) (r .n2)) (r .v)) e .0 in
-      let v = or-false (eqb (r .v) 0) (ltb 8 (r .v)) few in
-      let some = eqb-false (r .v) 0 (v .0) in
-      rw (ones-bit (r .v - 1) (omega (arith, ltb-false 8 (r .v) (v .1))))
+      let p = ports (r .n1) (r .n2) in
+      let rank = rank-of p (r .v) (not-false (isRank p (r .v)) (first-none tests (1 ∷ 2 ∷ 3 ∷ 4 ∷ []) tt e .at 4 tt)) in
+      rw (ones-bit (r .v - 1) (omega (arith, rank .v-few)))
 
-  module _ (h : InRange r) where
-    not-zero : (k : ℕ) → k < 8 * maskBytes (r .n1) (r .n2) → isZero mask k ≡ false
-    not-zero k within =
-        rw (mask-is (h .setting))
-        (is-one _ k (λ z. let one = full-bit (maskBytes (r .n1) (r .n2)) k within in omega arith))
+  -- those of the report alone
+  abbrev before : List ℕ
+  before = 1 ∷ 2 ∷ 3 ∷ 4 ∷ 5 ∷ 6 ∷ 7 ∷ 8 ∷ 9 ∷ []
 
-    -- every bit that the report reads lies in the beam mask
-    not-barred : barred mask r ≡ false
-    unfolding barred bitsRead
-    not-barred = by-ports (twoPorts (r .n1)) refl
-      where
-        by-ports : (b : Bool) → twoPorts (r .n1) ≡ b
-            → some (isZero mask) (cond b (twoPortBit r ∷ []) (map (beamBit (r .n2)) (beams r))) ≡ false
-        by-ports true e =
-            let two = eqb-true (r .n1) 1 e in
-            unfold some in
-            rw (not-zero (twoPortBit r) (omega (arith, two-ports-bit r h two, two-ports-mask r h two)))
-        by-ports false e =
-            let more = eqb-false (r .n1) 1 e in
-            let bits = mask-bits (r .n1) (r .n2) (h .setting) more in
-            some-none (isZero mask) (map (beamBit (r .n2)) (beams r)) (beamBit (r .n2) none)
-            (λ i k.
-            rw (List·getD-map (beamBit (r .n2)) (beams r) i none)
-            (not-zero _ (omega (arith, bits, bit-within _ _ _ (beams-within r (h .setting) i)))))
+  passed : first tests before ≡ 0 → InRange r
+  unfolding first test early numbered among
+  passed e =
+      let own = none-within tests ownOrder before tt (first-none tests before tt e) in
+      in-range r (first-none (rule r) ownOrder tt (none-zero tests ownOrder own))
 
-    -- 8 layers of 32 ports
-    room : ltb 256 (r .v * ports (r .n1) (r .n2)) ≡ false
-    room = le-ltb 256 (r .v * ports (r .n1) (r .n2)) (mul-le-mul (h .few) (ports-few (r .n1) (r .n2) (h .setting)))
+  -- every bit that the report reads lies in the beam mask
+  open-beams : InRange r → tests 10 ≡ false
+  unfolding test
+  open-beams h =
+      rw (mask-is (h .setting)) (not-barred _ _ (λ k t. full-bit (maskBytes (r .n1) (r .n2)) k (single-lawful .within r h k t)))
+
+  -- 8 layers of 32 ports
+  room : InRange r → tests 11 ≡ false
+  unfolding test
+  room h =
+      let few = mul-le-mul (rank-of _ _ (h .rank) .v-few) (ports-few (r .n1) (r .n2) (h .setting)) in
+      le-ltb 256 (r .v * ports (r .n1) (r .n2)) few
 
   -- ---- the tests that are left
 
-  -- the setting, the mode, the rank and the indices
-  unfoldable pub onReport : List (Bool × ℕ)
-  onReport =
-      (not (isSetting (r .n1) (r .n2)), 1)
-      ∷ (not (eqb (r .mode) 1 || eqb (r .mode) 2), 2)
-      ∷ (noRank, 4)
-      ∷ onIndices r
-
   -- a report is refused by its own numbers alone, in their order
-  pub refused-by-report : refusalOf r ≡ first onReport
-  unfolding refusalOf refusal refusals onSetting onRank onIndices onAnswer onReport
+  pub refused-by-report : refusalOf r ≡ first (rule r) (1 ∷ 2 ∷ 4 ∷ 6 ∷ 7 ∷ 8 ∷ 9 ∷ [])
+  unfolding first test early refusal refusalOf
   refused-by-report =
-      let before = early r mask 255 in
-      let range : None before → InRange r = λ n. early-in-range r mask 255 (none-zero before n) in
-      let setting : Bool × ℕ = (not (isSetting (r .n1) (r .n2)), 1) in
-      let mode : Bool × ℕ = (not (eqb (r .mode) 1 || eqb (r .mode) 2), 2) in
-      let bytes : Bool × ℕ = (not (eqb (length mask) (maskBytes (r .n1) (r .n2))), 3) in
-      let rank : Bool × ℕ = (noRank, 4) in
-      first-without before _ (barred mask r) 10 (λ n. not-barred (range n))
-      ∙ first-without before [] _ 11 (λ n. room (range n))
-      ∙ first-without (setting ∷ mode ∷ bytes ∷ rank ∷ []) (onIndices r) _ 5 (λ n. ranked (n .1 .1 .1 .0))
-      ∙ first-without (setting ∷ mode ∷ []) (rank ∷ onIndices r) _ 3 (λ n. sized (n .0))
+      first-without tests before (11 ∷ []) 10 (λ e. open-beams (passed e))
+      ∙ first-without tests before [] 11 (λ e. room (passed e))
+      ∙ first-without tests (1 ∷ 2 ∷ 3 ∷ 4 ∷ []) (6 ∷ 7 ∷ 8 ∷ 9 ∷ []) 5 ranked
+      ∙ first-without tests (1 ∷ 2 ∷ []) (4 ∷ 6 ∷ 7 ∷ 8 ∷ 9 ∷ []) 3 sized
 
   -- and so never by 3, 5, 10 or 11
   pub never-given : (refusalOf r ≢ 3) × (refusalOf r ≢ 5) × (refusalOf r ≢ 10) × (refusalOf r ≢ 11)
-  unfolding every onIndices onReport
+  unfolding each
   never-given =
       let given : ℕ → Bool = λ k. not (eqb k 3 || eqb k 5 || eqb k 10 || eqb k 11) in
-      let passes = first-passes given tt onReport tt in
+      let passes = first-passes given (rule r) tt ownOrder tt in
       let never : (k : ℕ) → T (not (given k)) → refusalOf r ≢ k =
       λ k u e. T-not (given k) u (subst (λ (n : ℕ). T (given n)) (sym refused-by-report ∙ e) passes) in
       (never 3 tt, never 5 tt, never 10 tt, never 11 tt)

@@ -1,14 +1,15 @@
--- The form of a line by what is found in it, and that a line has one reading. Assumes nothing.
+-- The form of a line by what is found in it, and that a line has one reading.
 use mathlib.Core.Path.{_≡_, refl, sym, ap, _∙_}
 use mathlib.Core.Bool.{true, false, false≢true}
 use mathlib.Core.List.{List, map}
 use Prim.Native.Nat.{ℕ, _<_, _≤_}
 use native.Mathlib.Omega.{arith}
 use lib.ListN.{length, getD, length-map}
-use Rattle.codebook.specs.declared.Report.{Report}
+use Rattle.report.specs.declared.Report.{Report}
 use Rattle.line.specs.declared.Reading.{Reading}
 use Rattle.line.specs.declared.Reading.the-variants.{Read, Unreadable}
-use Rattle.line.specs.Form.{value, joined, numbersOf, Form, Reads}
+use Rattle.text.specs.Words.{joined}
+use Rattle.line.specs.Form.{value, valuesOf, Form, Reads}
 use Rattle.line.proofs.Scanned.{words, good, good-decimals, good-joined, joined-good, joined-words}
 
 -- ---- a line that has the form
@@ -16,7 +17,7 @@ use Rattle.line.proofs.Scanned.{words, good, good-decimals, good-joined
 module _ {line : List ℕ} {r : Report} (f : Form line r) where
   -- it has eight words
   eight : length (f .words) ≡ 8
-  eight = sym (length-map (f .words) value) ∙ ap length (f .numbers)
+  eight = sym (length-map (f .words) value) ∙ ap length (f .values)
 
   form-good : good 8 line ≡ true
   form-good =
@@ -31,17 +32,17 @@ module _ {line : List ℕ} {r : Report} (f : Form line r) where
       ∙ ap (λ (n : ℕ). words n (joined (f .words))) (sym eight)
       ∙ joined-words (f .words) (f .decimals)
 
-  form-numbers : map value (words 8 line) ≡ numbersOf r
-  form-numbers = ap (map value) form-words ∙ f .numbers
+  form-values : map value (words 8 line) ≡ valuesOf r
+  form-values = ap (map value) form-words ∙ f .values
 
 -- ---- a line has the form if it is good
 
 pub reads-report : (line : List ℕ) {r : Report} → length line ≤ 256 → good 8 line ≡ true
-    → map value (words 8 line) ≡ numbersOf r → Reads line (Read r)
+    → map value (words 8 line) ≡ valuesOf r → Reads line (Read r)
 reads-report line h g e = record {
   words = words 8 line;
   decimals = good-decimals 8 line g;
-  numbers = e;
+  values = e;
   joins = good-joined 8 line g;
   few = h;
 }
@@ -55,9 +56,9 @@ too-long line h r f = omega (arith, f .few)
 
 -- ---- a line has one reading
 
-numbers-one : {r r′ : Report} → numbersOf r ≡ numbersOf r′ → r ≡ r′
-numbers-one {r} {r′} e =
-    let at : (k : ℕ) → getD (numbersOf r) k 0 ≡ getD (numbersOf r′) k 0 = λ k. ap (λ (xs : List ℕ). getD xs k 0) e in
+values-one : {r r′ : Report} → valuesOf r ≡ valuesOf r′ → r ≡ r′
+values-one {r} {r′} e =
+    let at : (k : ℕ) → getD (valuesOf r) k 0 ≡ getD (valuesOf r′) k 0 = λ k. ap (λ (xs : List ℕ). getD xs k 0) e in
     λ i. record {
       n1 = at 0 i;
       n2 = at 1 i;
@@ -71,7 +72,7 @@ numbers-one {r} {r′} e =
 
 -- a line stands for one report
 pub form-one : {line : List ℕ} {r r′ : Report} → Form line r → Form line r′ → r ≡ r′
-form-one f g = numbers-one (sym (form-numbers f) ∙ form-numbers g)
+form-one f g = values-one (sym (form-values f) ∙ form-values g)
 
 -- two readings of a line are one
 pub reads-one : (line : List ℕ) (a a′ : Reading) → Reads line a → Reads line a′ → a ≡ a′

@@ -1,4 +1,4 @@
--- The digits at the front of a text. Assumes nothing.
+-- The digits at the front of a text.
 use mathlib.Core.Path.{_≡_, refl, sym, ap, _∙_}
 use mathlib.Core.Bool.{Bool, true, false, _&&_}
 use mathlib.Core.List.{List, [], _∷_, _++_}
@@ -10,8 +10,10 @@ use lib.Dec.{leb}
 use lib.ListN.{length, drop, getD, replicate, length-append, List·getD-eq-default}
 use lib.Seq.{drop-cons, getD-drop}
 use borrow.Author.Tests.{leb-true, le-leb}
-use Rattle.codebook.proofs.Booleans.{and-true-left, and-true-right}
-use Rattle.line.specs.Form.{nought, isDigit, every, valueAfter, value, isDecimal}
+use Rattle.ground.proofs.Booleans.{and-true-left, and-true-right}
+use Rattle.ground.specs.Lists.{each}
+use Rattle.text.specs.Words.{nought}
+use Rattle.line.specs.Form.{isDigit, valueAfter, value, isDecimal}
 use Rattle.line.specs.Scan.{lead, next, Leads}
 
 -- what follows from either side of a test
@@ -51,8 +53,8 @@ lead-some k bs at h l e = rw (drop-cons bs at 0 l, add-one) (some-first k (getD 
 
 -- ---- what leads: digits, at most so many
 
-pub lead-digits : (k : ℕ) (bs : List ℕ) → every isDigit (lead k bs) ≡ true
-unfolding lead every
+pub lead-digits : (k : ℕ) (bs : List ℕ) → each isDigit (lead k bs) ≡ true
+unfolding lead each
 lead-digits zero bs = refl
 lead-digits (suc k) [] = refl
 lead-digits (suc k) (b ∷ bs) = by-test (isDigit b) (λ e. rw (e, e) (lead-digits k bs)) (λ e. rw e)
@@ -74,9 +76,9 @@ pub next-within : (bs : List ℕ) → length (next bs) ≤ length bs
 next-within bs = omega (arith, simp length-append at (ap length (lead-front 5 bs)))
 
 -- digits are found where they are followed by a byte that is none
-pub lead-word : (k : ℕ) (w : List ℕ) (x : ℕ) (bs : List ℕ) → every isDigit w ≡ true → length w ≤ k → isDigit x ≡ false
+pub lead-word : (k : ℕ) (w : List ℕ) (x : ℕ) (bs : List ℕ) → each isDigit w ≡ true → length w ≤ k → isDigit x ≡ false
     → lead k (w ++ x ∷ bs) ≡ w
-unfolding lead every
+unfolding lead each
 lead-word zero [] x bs d h n = refl
 lead-word zero (b ∷ w) x bs d h n = absurd (omega arith)
 lead-word (suc k) [] x bs d h n = rw n

@@ -2,11 +2,9 @@
 pub mod Leading
 pub mod Scanned
 pub mod Forms
-pub mod Puts
-pub mod Rows
-pub mod Composed
-pub mod Example
 pub mod Answered
+pub mod Texts
+pub mod Example
 pub mod Readback
 pub mod Longest
 pub mod Unique

@@ -1,4 +1,4 @@
--- A line of numbers that is printed reads back. Assumes nothing.
+-- A line of numbers that is printed reads back.
 use mathlib.Core.Path.{_≡_, refl, sym, ap, ap₂, _∙_}
 use mathlib.Core.Bool.{Bool, true, false, _&&_}
 use mathlib.Core.List.{List, [], _∷_, map}
@@ -6,10 +6,11 @@ use Prim.Native.Nat.{ℕ, _<_}
 use lib.Dec.{T, eqb, ltb, eqb→eq}
 use lib.ListN.{length, length-map}
 use borrow.Author.Tests.{ltb-true}
-use Rattle.turn.proofs.Tests.{and-left, and-right, every as upTo, every-at as upTo-at}
-use Rattle.codebook.proofs.Booleans.{and-true-left, and-true-right}
-use Rattle.line.specs.Form.{isDigit, every, value, valueAfter, isDecimal}
-use Rattle.line.specs.Text.{written, row}
+use Rattle.ground.specs.Lists.{each, every}
+use Rattle.ground.proofs.Tests.{and-left, and-right, every-at}
+use Rattle.ground.proofs.Booleans.{and-true-left, and-true-right}
+use Rattle.text.specs.Words.{written, lineOf}
+use Rattle.line.specs.Form.{isDigit, value, valueAfter, isDecimal}
 use Rattle.line.proofs.Scanned.{words, joined-words}
 
 is-true : (b : Bool) → T b → b ≡ true
@@ -21,39 +22,39 @@ readsBack n = isDecimal (written n) && eqb (value (written n)) n
 
 -- a number below 1000 is printed as a decimal of its value
 pub written-reads : (n : ℕ) → n < 1000 → (isDecimal (written n) ≡ true) × (value (written n) ≡ n)
-unfolding readsBack upTo every isDecimal isDigit valueAfter written
+unfolding readsBack every each isDecimal isDigit valueAfter written
 written-reads n h =
     let decimal = isDecimal (written n) in
-    let t = upTo-at 1000 readsBack tt n h in
+    let t = every-at 1000 readsBack tt n h in
     (is-true decimal (and-left decimal _ t), eqb→eq (value (written n)) n (and-right decimal _ t))
 
 -- of three digits at most
 abbrev pub isShort : ℕ → Bool
 isShort n = ltb n 1000
 
-module _ (x : ℕ) (xs : List ℕ) (h : every isShort (x ∷ xs) ≡ true) where
+module _ (x : ℕ) (xs : List ℕ) (h : each isShort (x ∷ xs) ≡ true) where
   head-short : x < 1000
-  unfolding every
-  head-short = ltb-true x 1000 (and-true-left (isShort x) (every isShort xs) h)
+  unfolding each
+  head-short = ltb-true x 1000 (and-true-left (isShort x) (each isShort xs) h)
 
-  rest-short : every isShort xs ≡ true
-  unfolding every
-  rest-short = and-true-right (isShort x) (every isShort xs) h
+  rest-short : each isShort xs ≡ true
+  unfolding each
+  rest-short = and-true-right (isShort x) (each isShort xs) h
 
-decimals : (xs : List ℕ) → every isShort xs ≡ true → every isDecimal (map written xs) ≡ true
-unfolding every
+decimals : (xs : List ℕ) → each isShort xs ≡ true → each isDecimal (map written xs) ≡ true
+unfolding each
 decimals [] h = refl
 decimals (x ∷ xs) h = rw (written-reads x (head-short x xs h) .0) (decimals xs (rest-short x xs h))
 
-values : (xs : List ℕ) → every isShort xs ≡ true → map value (map written xs) ≡ xs
+values : (xs : List ℕ) → each isShort xs ≡ true → map value (map written xs) ≡ xs
 values [] h = refl
 values (x ∷ xs) h =
     ap₂ {C = List ℕ} (λ y ys. y ∷ ys) (written-reads x (head-short x xs h) .1) (values xs (rest-short x xs h))
 
 -- and so the words of a line of numbers that is printed have their values
-pub row-reads : (xs : List ℕ) → every isShort xs ≡ true → map value (words (length xs) (row xs)) ≡ xs
-unfolding row
+pub row-reads : (xs : List ℕ) → each isShort xs ≡ true → map value (words (length xs) (lineOf xs)) ≡ xs
+unfolding lineOf
 row-reads xs h =
-    ap (λ (n : ℕ). map value (words n (row xs))) (sym (length-map xs written))
+    ap (λ (n : ℕ). map value (words n (lineOf xs))) (sym (length-map xs written))
     ∙ ap (map value) (joined-words (map written xs) (decimals xs h))
     ∙ values xs h

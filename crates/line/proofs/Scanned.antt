@@ -1,4 +1,4 @@
--- A text taken apart into words, each followed by what has to follow it. Assumes nothing.
+-- A text taken apart into words, each followed by what has to follow it.
 use mathlib.Core.Path.{_≡_, refl, ap, _∙_}
 use mathlib.Core.Bool.{Bool, true, false, _&&_, false≢true}
 use mathlib.Core.List.{List, [], _∷_, _++_}
@@ -9,8 +9,10 @@ use lib.Dec.{leb}
 use lib.ListN.{length, drop, getD, drop-of-length-le}
 use lib.Seq.{drop-cons, drop-drop, drop-append-add, getD-append-seam}
 use borrow.Author.Tests.{eq-eqb, eqb-true, leb-true}
-use Rattle.codebook.proofs.Booleans.{and-true-left, and-true-right}
-use Rattle.line.specs.Form.{isDigit, every, isDecimal, ending, joined}
+use Rattle.ground.proofs.Booleans.{and-true-left, and-true-right}
+use Rattle.ground.specs.Lists.{each}
+use Rattle.text.specs.Words.{ending, joined}
+use Rattle.line.specs.Form.{isDigit, isDecimal}
 use Rattle.line.specs.Scan.{next, isEnded}
 use Rattle.line.proofs.Leading.{lead-front, lead-word}
 
@@ -109,8 +111,8 @@ words-none n bs z = rw z
 
 -- ---- what is good is the words that are found, joined
 
-pub good-decimals : (n : ℕ) (bs : List ℕ) → good n bs ≡ true → every isDecimal (words n bs) ≡ true
-unfolding good words every
+pub good-decimals : (n : ℕ) (bs : List ℕ) → good n bs ≡ true → each isDecimal (words n bs) ≡ true
+unfolding good words each
 good-decimals zero bs e = refl
 good-decimals (suc left) bs e =
     rw (ended-decimal bs left (and-true-left (isEnded bs left) _ e))
@@ -132,9 +134,9 @@ module _ (w : List ℕ) (d : isDecimal w ≡ true) (left : ℕ) (bs : List ℕ) 
   next-joined : next (w ++ ending left ∷ bs) ≡ w
   unfolding isDecimal
   next-joined =
-      let h = and-true-right (every isDigit w) _ d in
+      let h = and-true-right (each isDigit w) _ d in
       let few = and-true-left (leb (length w) 5) _ (and-true-right (leb 1 (length w)) _ h) in
-      lead-word 5 w (ending left) bs (and-true-left (every isDigit w) _ d) (leb-true _ _ few) (ending-no-digit left)
+      lead-word 5 w (ending left) bs (and-true-left (each isDigit w) _ d) (leb-true _ _ few) (ending-no-digit left)
 
   rest-joined : rest (w ++ ending left ∷ bs) ≡ bs
   unfolding rest
@@ -144,16 +146,16 @@ module _ (w : List ℕ) (d : isDecimal w ≡ true) (left : ℕ) (bs : List ℕ) 
   unfolding isEnded
   ended = rw (next-joined, d, getD-append-seam w (ending left) bs 0, eq-eqb (ending left) (ending left) refl)
 
-pub joined-good : (ws : List (List ℕ)) → every isDecimal ws ≡ true → good (length ws) (joined ws) ≡ true
-unfolding good every joined
+pub joined-good : (ws : List (List ℕ)) → each isDecimal ws ≡ true → good (length ws) (joined ws) ≡ true
+unfolding good each joined
 joined-good [] d = refl
 joined-good (w ∷ ws) d =
     let dec = and-true-left (isDecimal w) _ d in
     rw (ended w dec (length ws) (joined ws), rest-joined w dec (length ws) (joined ws))
     (joined-good ws (and-true-right (isDecimal w) _ d))
 
-pub joined-words : (ws : List (List ℕ)) → every isDecimal ws ≡ true → words (length ws) (joined ws) ≡ ws
-unfolding words every joined
+pub joined-words : (ws : List (List ℕ)) → each isDecimal ws ≡ true → words (length ws) (joined ws) ≡ ws
+unfolding words each joined
 joined-words [] d = refl
 joined-words (w ∷ ws) d =
     let dec = and-true-left (isDecimal w) _ d in

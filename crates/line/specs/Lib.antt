@@ -1,4 +1,4 @@
 -- What the contracts cite: first those of the public functions, then those of the functions below them.
 pub mod Form
-pub mod Text
+pub mod Prints
 pub mod Scan

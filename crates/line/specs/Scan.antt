@@ -5,8 +5,9 @@ use mathlib.Core.List.{List, [], _∷_}
 use Prim.Native.Nat.{ℕ, zero, suc, _+_}
 use lib.Dec.{eqb}
 use lib.ListN.{length, getD}
-use Rattle.line.specs.declared.numbers.Number.{Number}
-use Rattle.line.specs.Form.{isDigit, value, isDecimal, ending}
+use Rattle.text.specs.Words.{ending}
+use Rattle.line.specs.declared.decimals.Number.{Number}
+use Rattle.line.specs.Form.{isDigit, value, isDecimal}
 
 -- the digits at the front of a text, at most k of them
 unfoldable pub lead : ℕ → List ℕ → List ℕ

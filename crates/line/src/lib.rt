@@ -1,15 +1,15 @@
 // One line of text: read as a report, and answered by text.
-use codebook::Report;
-use precoder::Record;
+use plan::Record;
+use report::Report;
 ghost use mathlib.Core.Path.{_≡_};
-ghost use Prim.Native.Nat.{_≤_};
-ghost use lib.ListN.{length};
+ghost use lib.Dec.{eqb};
+ghost use Rattle.ground.specs.Cases.{_⇒_∣_};
 ghost use Rattle.line.specs.declared.Reading.the-variants.{Read};
-ghost use Rattle.line.specs.Form.{numbersOf, Reads};
-ghost use Rattle.line.specs.Text.{longest, Composed, Prints};
+ghost use Rattle.line.specs.declared.Answer.the-variants.{NoRoom};
+ghost use Rattle.line.specs.Form.{valuesOf, Reads};
+ghost use Rattle.line.specs.Prints.{answerBy, Outcome, Prints};
 
-mod numbers;
-mod text;
+mod decimals;
 
 // What a line holds: the eight numbers of a report, or nothing of that form.
 pub enum Reading {
@@ -35,23 +35,22 @@ pub struct Printed {
 // The bytes of the longest line that is read, with its newline.
 pub const LONGEST_LINE: usize = 256;
 
-// The bytes of the longest text: `ok 32 8 256`, and 8 lines of 32 phases, each of three digits and what follows it. A
-// buffer of so many has room for every answer.
-pub const LONGEST_TEXT: usize = 12 + 8 * 32 * 4;
+// The bytes of the longest text: a buffer of so many has room for every answer.
+pub const LONGEST_TEXT: usize = text::LONGEST_TEXT;
 
 // The report of eight numbers, in the order of a line.
-fn report_of(numbers: [u32; 8]) -> Report
-    ensures { λ r. ⌜ numbersOf r ≡ numbers ⌝ }
+fn report_of(values: [u32; 8]) -> Report
+    ensures { λ r. ⌜ valuesOf r ≡ values ⌝ }
 {
     Report {
-        n1: numbers[0],
-        n2: numbers[1],
-        mode: numbers[2],
-        v: numbers[3],
-        i11: numbers[4],
-        i12: numbers[5],
-        i13: numbers[6],
-        i2: numbers[7],
+        n1: values[0],
+        n2: values[1],
+        mode: values[2],
+        v: values[3],
+        i11: values[4],
+        i12: values[5],
+        i13: values[6],
+        i2: values[7],
     }
 }
 
@@ -64,62 +63,61 @@ pub fn read(line: &[u8]) -> Reading
     if line.len() > LONGEST_LINE {
         return Reading::Unreadable;
     }
-    let mut numbers = [0; 8];
+    let mut values = [0; 8];
     let mut at = 0;
     let mut j = 0;
     while j < 8 {
-        let n = numbers::leading(line, at);
-        if !numbers::ends(line, at, n, 7 - j) {
+        let n = decimals::leading(line, at);
+        if !decimals::ends(line, at, n, 7 - j) {
             return Reading::Unreadable;
         }
-        numbers[j] = n.value;
+        values[j] = n.value;
         at = n.end + 1;
         j += 1;
     }
     if at < line.len() {
         return Reading::Unreadable;
     }
-    Reading::Read(report_of(numbers))
+    Reading::Read(report_of(values))
 }
 
-// The text for a report, all mask bits ones.
-fn answer_to(out: &mut [u8], r: Report) -> Printed
-    requires { ⌜ longest ≤ length (now out) ⌝ }
-    ensures { λ p. ⌜ Composed (Read r) (now (out .entry)) p (now (out .exit)) ⌝ }
+// How a record answers.
+fn answer_by(a: Record) -> Answer
+    ensures { λ x. ⌜ x ≡ answerBy a ⌝ }
 {
-    let bytes = codebook::mask_bytes(r.n1, r.n2) as usize;
-    let ones = [255; 32];
-    let mut phases = [0; 256];
-    let a = precoder::phases(r, &ones[..bytes], 255, &mut phases);
     let number = a.refusal;
     if number != 0 {
-        let n = text::refused(out, number);
+        return Answer::Refused(number);
+    }
+    Answer::Accepted(a)
+}
+
+// An answer whose text has n bytes in the lent buffer; without any there was no room.
+fn given(answer: Answer, n: usize) -> Printed
+    ensures { λ p. ⌜ p ≡ record { answer = eqb n 0 ⇒ NoRoom ∣ answer; length = n } ⌝ }
+{
+    if n == 0 {
         return Printed {
-            answer: Answer::Refused(number),
+            answer: Answer::NoRoom,
             length: n,
         };
     }
-    let n = text::accepted(out, a);
-    let m = text::rows(&mut out[n..], &phases, a.ports as usize, a.layers as usize);
     Printed {
-        answer: Answer::Accepted(a),
-        length: n + m,
+        answer: answer,
+        length: n,
     }
 }
 
-// The text for a line that is read.
-fn compose(out: &mut [u8], reading: Reading) -> Printed
-    requires { ⌜ longest ≤ length (now out) ⌝ }
-    ensures { λ p. ⌜ Composed reading (now (out .entry)) p (now (out .exit)) ⌝ }
+// The text for a report, all mask bits ones.
+fn answer_to(r: Report, out: &mut [u8]) -> Printed
+    ensures { λ p. ⌜ Outcome (Read r) (now (out .entry)) p (now (out .exit)) ⌝ }
 {
-    if let Reading::Read(r) = reading {
-        return answer_to(out, r);
-    }
-    let n = text::unreadable(out);
-    Printed {
-        answer: Answer::Unreadable,
-        length: n,
-    }
+    let bytes = settings::mask_bytes(r.n1, r.n2) as usize;
+    let ones = [255; 32];
+    let mut phases = [0; 256];
+    let a = precoder::phases(r, &ones[..bytes], 255, &mut phases);
+    let n = text::answer(a, &phases, out);
+    given(answer_by(a), n)
 }
 
 // Answers a line by text, with all bits of both masks ones: `ok`, P, v and the scale, and then a line of phases for each
@@ -129,15 +127,9 @@ fn compose(out: &mut [u8], reading: Reading) -> Printed
 pub fn print(line: &[u8], out: &mut [u8]) -> Printed
     ensures { λ p. ⌜ Prints (now (line .entry)) (now (out .entry)) p (now (out .exit)) ⌝ }
 {
-    let mut text = [0; LONGEST_TEXT];
-    let p = compose(&mut text, read(line));
-    let n = p.length;
-    if n > out.len() {
-        return Printed {
-            answer: Answer::NoRoom,
-            length: 0,
-        };
+    if let Reading::Read(r) = read(line) {
+        return answer_to(r, out);
     }
-    text::put(out, &text[..n]);
-    p
+    let n = text::unreadable(out);
+    given(Answer::Unreadable, n)
 }

@@ -27,6 +27,7 @@ given s q = record { sizes = s; i11 = q .0; i12 = q .1; i13 = q .2; i2 = q .3 }
 pub as-given : {a b c : Ranges} → b ≡ c → a ≡ b → a ≡ c
 as-given p q = q ∙ p
 
+-- the values by rank, in the order of the code's tests
 unfoldable pub inModeTwo : Sizes → ℕ → Values
 inModeTwo s v =
     eqb v 1 ⇒ (s .across / 2, (s .down + 1) / 2, 1, 16)
@@ -63,6 +64,7 @@ byRank s n1 n2 mode v =
 abbrev sizesAt : ℕ → ℕ → Sizes
 sizesAt n1 n2 = record { ports = ports n1 n2; across = across n1; down = down n2; bytes = maskBytes n1 n2 }
 
+-- whether these are the values of the definitions
 right : ℕ → ℕ → ℕ → ℕ → Values → Bool
 right n1 n2 mode v q =
     eqb (q .0) (i11Values n1 n2 mode v) && eqb (q .1) (i12Values n1 n2 mode v)

@@ -130,13 +130,7 @@ pub fn ranges_of(n1: u32, n2: u32, mode: u32, v: u32) -> Ranges
         return values::three_or_four(n1, n2, mode, v, s);
     }
     if v <= 6 {
-        return Ranges {
-            sizes: s,
-            i11: s.across,
-            i12: s.down,
-            i13: 1,
-            i2: 2,
-        };
+        return values::plain(s, 1);
     }
     values::seven_or_eight(n1, n2, mode, v, s)
 }

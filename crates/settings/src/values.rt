@@ -52,6 +52,19 @@ pub fn is_half_length(p: u32, v: u32) -> bool
     16 <= p
 }
 
+// Nothing halved, and two values of i2.
+pub fn plain(s: Sizes, i13: u32) -> Ranges
+    ensures { λ a. ⌜ a ≡ record { sizes = s; i11 = s .across; i12 = s .down; i13 = i13; i2 = 2 } ⌝ }
+{
+    Ranges {
+        sizes: s,
+        i11: s.across,
+        i12: s.down,
+        i13: i13,
+        i2: 2,
+    }
+}
+
 // Where mode 2 acts. One beam down is not halved.
 fn in_mode_two(n1: u32, n2: u32, mode: u32, v: u32, s: Sizes) -> Ranges
     requires { ⌜ (s ≡ sizesOf n1 n2) × (isRanked n1 n2 mode v ≡ true) × (modeTwo n1 mode v ≡ true) ⌝ }
@@ -106,21 +119,9 @@ pub fn one_or_two(n1: u32, n2: u32, mode: u32, v: u32, s: Sizes) -> Ranges
         };
     }
     if p < 8 {
-        return Ranges {
-            sizes: s,
-            i11: s.across,
-            i12: s.down,
-            i13: p / 2,
-            i2: 2,
-        };
+        return plain(s, p / 2);
     }
-    Ranges {
-        sizes: s,
-        i11: s.across,
-        i12: s.down,
-        i13: 4,
-        i2: 2,
-    }
+    plain(s, 4)
 }
 
 // Three and four layers. Beams are of half length from 16 ports on.
@@ -139,30 +140,12 @@ pub fn three_or_four(n1: u32, n2: u32, mode: u32, v: u32, s: Sizes) -> Ranges
         };
     }
     if p == 8 {
-        return Ranges {
-            sizes: s,
-            i11: s.across,
-            i12: s.down,
-            i13: 3,
-            i2: 2,
-        };
+        return plain(s, 3);
     }
     if p == 4 {
-        return Ranges {
-            sizes: s,
-            i11: s.across,
-            i12: s.down,
-            i13: 1,
-            i2: 2,
-        };
+        return plain(s, 1);
     }
-    Ranges {
-        sizes: s,
-        i11: s.across,
-        i12: s.down,
-        i13: 4,
-        i2: 2,
-    }
+    plain(s, 4)
 }
 
 // Seven and eight layers. With N2 other than 2, (4,1) alone has eight ports.
@@ -181,13 +164,7 @@ pub fn seven_or_eight(n1: u32, n2: u32, mode: u32, v: u32, s: Sizes) -> Ranges
                 i2: 2,
             };
         }
-        return Ranges {
-            sizes: s,
-            i11: s.across,
-            i12: s.down,
-            i13: 1,
-            i2: 2,
-        };
+        return plain(s, 1);
     }
     if p == 8 {
         return Ranges {
@@ -198,11 +175,5 @@ pub fn seven_or_eight(n1: u32, n2: u32, mode: u32, v: u32, s: Sizes) -> Ranges
             i2: 2,
         };
     }
-    Ranges {
-        sizes: s,
-        i11: s.across,
-        i12: s.down,
-        i13: 1,
-        i2: 2,
-    }
+    plain(s, 1)
 }

@@ -1,68 +1,65 @@
--- `print` meets its contract: the text is composed in an array that is long enough for any, and is copied where it fits.
--- Assumes nothing.
-use mathlib.Core.Path.{sym}
-use Prim.Native.Nat.{_≤_}
-use native.Mathlib.Omega.{arith}
-use lib.ListN.{length, replicate}
-use lib.Seq.{length-take-le}
+-- `print` meets its contract: each of its cases is that of the reading.
 use borrow.Author.Needs.{needs}
-use Rattle.line.specs.Text.{longest, textOf}
-use Rattle.line.proofs.Puts.{Stands, stands-within}
-use Rattle.line.proofs.Composed.{prints-nothing, prints-text}
+use Rattle.line.specs.declared.Reading.the-variants.{Unreadable}
+use Rattle.line.proofs.Texts.{outcome-of}
 use Rattle.line.proofs.print.Statement.{statement}
 use Rattle.line.proofs.print.Tie as tie
 
-slice-aggregate-compose : tie.Need-slice-aggregate-compose
-slice-aggregate-compose c = search needs
-
 read-requires : tie.Need-read-requires
-read-requires c κs = search needs
+read-requires c κs = tt
 
-compose-requires : tie.Need-compose-requires
-compose-requires c κs = search needs
+enum-known-r : tie.Need-enum-known-r
+enum-known-r c = search needs
+
+answer-to-requires : tie.Need-answer-to-requires
+answer-to-requires c κs = tt
+
+same-length : tie.Need-same-length
+same-length c = c .before .before .answer-to .kept .1 .0
 
 returns : tie.Need-returns
 returns c =
-    let m = c .before .before in
-    prints-nothing (m .before .read .ensures) (m .compose .ensures) (c .if1 .taken)
+    let a = c .before .before in
+    let r = a .before .before .before in
+    record {
+      reading = r .before .before .read .result;
+      reads = r .before .before .read .ensures;
+      outcome = rw (r .r .given .1) (a .answer-to .ensures);
+    }
 
--- the text that is composed
-composed : (c : tie.After-compose)
-    → Stands (textOf (c .before .read .result)) (replicate longest 0) (c .compose .result .length) (c .compose .last .0)
-composed c = record { puts = c .compose .ensures .puts; kept = c .compose .kept .0 }
+enum-told : tie.Need-enum-told
+enum-told c = search needs
 
-within : (c : tie.After-compose) → c .compose .result .length ≤ length (c .compose .last .0)
-within c = omega (arith, stands-within (composed c), composed c .kept)
+unreadable-requires : tie.Need-unreadable-requires
+unreadable-requires c κs = tt
 
-array-share-prefix-text : tie.Need-array-share-prefix-text
-array-share-prefix-text c = within (c .before .before .before)
+given-requires : tie.Need-given-requires
+given-requires c κs = tt
 
-slice-aggregate-put : tie.Need-slice-aggregate-put
-slice-aggregate-put c = sym (length-take-le _ _ (within (c .before .before .before .before)))
-
-put-requires : tie.Need-put-requires
-put-requires c κs = rw (length-take-le _ _ (within (c .before .before .before .before))) (c .before .before .if1 .left)
-
-same-length : tie.Need-same-length
-same-length c = search needs
+same-length-2 : tie.Need-same-length-2
+same-length-2 c = c .before .before .before .unreadable .kept .0
 
 returns-2 : tie.Need-returns-2
 returns-2 c =
-    let p = c .before .before in
-    let e = p .before .before .before in
-    let m = e .before .before in
-    prints-text (m .before .read .ensures) (m .compose .ensures) (e .if1 .left) (p .put .ensures)
+    let u = c .before .before .before in
+    let t = u .before .before in
+    record {
+      reading = t .before .before .read .result;
+      reads = t .before .before .read .ensures;
+      outcome = rw (t .enum-told .given .1) (outcome-of Unreadable (u .unreadable .ensures) (c .given .ensures));
+    }
 
 pub print-spec : {M : Type 1} → statement M
 print-spec =
     tie.close
     (tie.spec
-    slice-aggregate-compose
     read-requires
-    compose-requires
-    returns
-    array-share-prefix-text
-    slice-aggregate-put
-    put-requires
+    enum-known-r
+    answer-to-requires
     same-length
+    returns
+    enum-told
+    unreadable-requires
+    given-requires
+    same-length-2
     returns-2)

@@ -1,5 +1,5 @@
 -- `read` meets its contract: at each turn the line is good if what is left of it is, and its numbers are those that are
--- stored and those that are left. Assumes nothing.
+-- stored and those that are left.
 use mathlib.Core.Path.{_≡_, refl, sym, _∙_}
 use mathlib.Core.Bool.{true}
 use mathlib.Core.List.{List, _∷_, _++_, map, append-nil}
@@ -19,12 +19,12 @@ use Rattle.line.proofs.read.Statement.{statement}
 use Rattle.line.proofs.read.Tie as tie
 
 abbrev Inv-loop : tie.InvT-loop
-Inv-loop line numbers₀ at₀ j₀ numbers at j =
-    (j ≤ 8) × (at ≤ length line) × (length numbers ≡ 8) × (good 8 line ≡ good (8 - j) (drop at line))
-    × (map value (words 8 line) ≡ take j numbers ++ map value (words (8 - j) (drop at line)))
+Inv-loop line values₀ at₀ j₀ values at j =
+    (j ≤ 8) × (at ≤ length line) × (length values ≡ 8) × (good 8 line ≡ good (8 - j) (drop at line))
+    × (map value (words 8 line) ≡ take j values ++ map value (words (8 - j) (drop at line)))
 
 abbrev μ-loop : tie.MeasureT-loop
-μ-loop line numbers₀ at₀ j₀ numbers at j = 8 - j
+μ-loop line values₀ at₀ j₀ values at j = 8 - j
 
 returns : tie.Need-returns Inv-loop μ-loop
 returns c = too-long _ (omega arith)
@@ -68,11 +68,11 @@ within c =
       length-drop (t .loop .at) line,
     )
 
-mul-numbers : tie.Need-mul-numbers Inv-loop μ-loop
-mul-numbers c = omega arith
+mul-values : tie.Need-mul-values Inv-loop μ-loop
+mul-values c = omega arith
 
-array-write-numbers : tie.Need-array-write-numbers Inv-loop μ-loop
-array-write-numbers c = omega arith
+array-write-values : tie.Need-array-write-values Inv-loop μ-loop
+array-write-values c = omega arith
 
 add-at : tie.Need-add-at Inv-loop μ-loop
 add-at c = omega (arith, within (c .before))
@@ -104,7 +104,7 @@ loop-again c =
       within e,
       simp length-set (l .inv .2),
       rw fewer (l .inv .3 ∙ goes-on),
-      rw fewer (stored-next (l .numbers) _ (l .j) (n .value) (rw (go-on, ← read .value) at (l .inv .4)) (omega arith)),
+      rw fewer (stored-next (l .values) _ (l .j) (n .value) (rw (go-on, ← read .value) at (l .inv .4)) (omega arith)),
     )
 
 returns-3 : tie.Need-returns-3 Inv-loop μ-loop
@@ -123,8 +123,8 @@ returns-4 c =
     let l = t .loop in
     let line : List ℕ = t .before .before .before .args .line .now in
     let none = words-none (8 - l .j) (drop (l .at) line) (omega arith) in
-    let all : map value (words 8 line) ≡ l .numbers =
-    l .inv .4 ∙ rw (none, append-nil) (take-all (l .j) (l .numbers) (omega arith)) in
+    let all : map value (words 8 line) ≡ l .values =
+    l .inv .4 ∙ rw (none, append-nil) (take-all (l .j) (l .values) (omega arith)) in
     reads-report line (omega arith)
     (l .inv .3 ∙ good-past (8 - l .j) (l .at) line (omega arith) (omega arith))
     (all ∙ sym (c .report-of .ensures))
@@ -141,8 +141,8 @@ read-spec =
     sub-ends
     ends-requires
     returns-2
-    mul-numbers
-    array-write-numbers
+    mul-values
+    array-write-values
     add-at
     add-j
     loop-less

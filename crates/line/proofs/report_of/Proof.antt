@@ -1,4 +1,4 @@
--- `report_of` meets its contract: eight numbers are those at their places. Assumes nothing.
+-- `report_of` meets its contract: eight numbers are those at their places.
 use mathlib.Core.Path.{_≡_, sym, ap, _∙_}
 use mathlib.Core.List.{List, [], _∷_}
 use Prim.Native.Nat.{ℕ, zero, suc, _+_, _≤_}

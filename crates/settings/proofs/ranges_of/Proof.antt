@@ -52,12 +52,17 @@ three-or-four-requires c κs =
 returns-3 : tie.Need-returns-3
 returns-3 c = c .three-or-four .ensures
 
+plain-requires : tie.Need-plain-requires
+plain-requires c κs = search needs
+
 returns-4 : tie.Need-returns-4
 returns-4 c =
-    let e = c .before .before .before in
+    let l = c .before in
+    let e = l .before .before .before in
     let z = e .before .before in
     let a = z .before .args in
-    five-or-six (a .n1) (a .n2) (a .mode) (a .v) (ranked e) (z .sizes-of .ensures) (c .before .if3 .left) (c .if4 .taken)
+    c .plain .ensures
+    ∙ five-or-six (a .n1) (a .n2) (a .mode) (a .v) (ranked e) (z .sizes-of .ensures) (l .before .if3 .left) (l .if4 .taken)
 
 seven-or-eight-requires : tie.Need-seven-or-eight-requires
 seven-or-eight-requires c κs =
@@ -78,6 +83,7 @@ ranges-of-spec =
     returns-2
     three-or-four-requires
     returns-3
+    plain-requires
     returns-4
     seven-or-eight-requires
     returns-5)

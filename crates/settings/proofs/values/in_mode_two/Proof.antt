@@ -22,11 +22,15 @@ returns c = as-given (right (c .before .before .before)) (rw (eq-eqb _ 1 (c .if1
 
 returns-2 : tie.Need-returns-2
 unfolding inModeTwo
-returns-2 c = as-given (right (c .before .before .before .before)) (rw (ne-eqb _ 1 (c .before .if1 .left), eq-eqb _ 4 (c .if2 .taken)))
+returns-2 c =
+    as-given (right (c .before .before .before .before))
+    (rw (ne-eqb _ 1 (c .before .if1 .left), eq-eqb _ 4 (c .if2 .taken)))
 
 returns-3 : tie.Need-returns-3
 unfolding inModeTwo
-returns-3 c = as-given (right (c .before .before .before .before)) (rw (ne-eqb _ 1 (c .before .if1 .left), ne-eqb _ 4 (c .if2 .left)))
+returns-3 c =
+    as-given (right (c .before .before .before .before))
+    (rw (ne-eqb _ 1 (c .before .if1 .left), ne-eqb _ 4 (c .if2 .left)))
 
 pub in-mode-two-spec : {M : Type 1} → statement M
 in-mode-two-spec = tie.close (tie.spec add-i12 returns returns-2 returns-3)

@@ -33,21 +33,31 @@ returns-2 c =
     let d = c .before in
     as-given (right (d .before .before)) (rw (mode-one d, eq-eqb _ 1 (c .if2 .taken)))
 
+plain-requires : tie.Need-plain-requires
+plain-requires c κs = search needs
+
 returns-3 : tie.Need-returns-3
 unfolding oneOrTwo
 returns-3 c =
-    let e = c .before in
+    let l = c .before in
+    let e = l .before in
     let d = e .before in
-    as-given (right (d .before .before)) (rw (mode-one d, ne-eqb _ 1 (e .if2 .left), lt-ltb _ 8 (c .if3 .taken)))
+    as-given (right (d .before .before))
+    (rw (c .plain .ensures, mode-one d, ne-eqb _ 1 (e .if2 .left), lt-ltb _ 8 (l .if3 .taken)))
+
+plain-requires-2 : tie.Need-plain-requires-2
+plain-requires-2 c κs = search needs
 
 returns-4 : tie.Need-returns-4
 unfolding oneOrTwo
 returns-4 c =
-    let e = c .before in
+    let l = c .before in
+    let e = l .before in
     let d = e .before in
-    as-given (right (d .before .before)) (rw (mode-one d, ne-eqb _ 1 (e .if2 .left), le-ltb _ 8 (c .if3 .left)))
+    as-given (right (d .before .before))
+    (rw (c .plain2 .ensures, mode-one d, ne-eqb _ 1 (e .if2 .left), le-ltb _ 8 (l .if3 .left)))
 
 pub one-or-two-spec : {M : Type 1} → statement M
 one-or-two-spec =
     tie.close
-    (tie.spec is-mode-two-requires in-mode-two-requires returns returns-2 returns-3 returns-4)
+    (tie.spec is-mode-two-requires in-mode-two-requires returns returns-2 plain-requires returns-3 plain-requires-2 returns-4)

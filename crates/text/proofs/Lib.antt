@@ -1,0 +1,8 @@
+-- Laws that the proofs share, then theorems.
+pub mod Adds
+pub mod Writes
+pub mod Words
+pub mod Digits
+pub mod Lines
+pub mod Records
+pub mod Unique

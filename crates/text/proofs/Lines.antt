@@ -1,0 +1,103 @@
+-- The lines of a matrix, and the first line of a text: how they are written, and how long they are.
+use mathlib.Core.Path.{_≡_, refl, ap, _∙_}
+use mathlib.Core.List.{List, [], _∷_, _++_, append-nil, append-assoc}
+use Prim.Native.Nat.{ℕ, zero, suc, _+_, _-_, _*_, _%_, _<_, _≤_}
+use native.Mathlib.Nat.{add-zero, add-suc, zero-mul, mul-zero}
+use native.Mathlib.Numerals.{add-one}
+use native.Mathlib.Omega.{arith}
+use lib.Arith.{digits-mod}
+use lib.ListN.{length, getD, length-append, length-take}
+use Rattle.plan.specs.declared.Record.{Record}
+use Rattle.plan.specs.Plan.{layer}
+use Rattle.plan.proofs.Layers.{layer-before}
+use Rattle.text.specs.Words.{ending, joined, written, lineOf, headed}
+use Rattle.text.specs.Text.{linesOf, okText, refusedText, unreadableText}
+use Rattle.text.proofs.Words.{written-few, written-one-few, written-two-few}
+use Rattle.text.proofs.Words.{lineBegun, line-nothing, part-next, part-all, line-few}
+
+-- ---- lines for layers
+
+-- the first i phases of lines of p
+unfoldable pub linesBegun : ℕ → ℕ → List ℕ → List ℕ
+linesBegun p zero xs = []
+linesBegun p (suc i) xs = linesBegun p i xs ++ (written (getD xs i 0) ++ ending (p - 1 - i % p) ∷ [])
+
+module _ (p : ℕ) (xs : List ℕ) where
+  pub lines-nothing : linesBegun p 0 xs ≡ []
+  unfolding linesBegun
+  lines-nothing = refl
+
+  pub lines-next : (i : ℕ)
+      → linesBegun p (i + 1) xs ≡ linesBegun p i xs ++ (written (getD xs i 0) ++ ending (p - 1 - i % p) ∷ [])
+  unfolding linesBegun
+  lines-next i = rw add-one
+
+  -- three digits and what follows them for each
+  pub lines-begun-few : (i : ℕ) → length (linesBegun p i xs) ≤ 4 * i
+  unfolding linesBegun
+  lines-begun-few zero = omega arith
+  lines-begun-few (suc i) =
+      simp length-append (omega (arith, lines-begun-few i, written-few (getD xs i 0)))
+
+  -- after j lines, the line of a layer
+  in-line : (j i : ℕ) → suc j * p ≤ length xs → linesBegun p (j * p) xs ≡ linesOf j p xs → i ≤ p
+      → linesBegun p (j * p + i) xs ≡ linesOf j p xs ++ lineBegun i (layer p j xs)
+  unfolding linesBegun
+  in-line j zero h e k = rw (add-zero, line-nothing, append-nil) e
+  in-line j (suc i) h e k =
+      let place : (j * p + i) % p ≡ i = digits-mod j (omega arith) in
+      let left : p - 1 - i ≡ p - (i + 1) = omega arith in
+      let next = part-next xs (j * p) p i (omega arith) (omega arith) in
+      rw (add-suc, in-line j i h e (omega arith), place, left, ← add-one i, next) (simp append-assoc)
+
+  pub lines-all : (j : ℕ) → j * p ≤ length xs → linesBegun p (j * p) xs ≡ linesOf j p xs
+  unfolding linesOf
+  lines-all zero h = rw zero-mul lines-nothing
+  lines-all (suc j) h =
+      let line : suc j * p ≡ j * p + p = omega arith in
+      rw line
+      (in-line j p h (lines-all j (omega arith)) (omega arith)
+      ∙ ap (λ (l : List ℕ). linesOf j p xs ++ l) (part-all xs (j * p) p p (omega arith) refl))
+
+  -- which have p numbers at most
+  pub lines-few : (n : ℕ) → length (linesOf n p xs) ≤ 4 * (n * p)
+  unfolding linesOf
+  lines-few zero = omega arith
+  lines-few (suc n) =
+      let short : length (layer p n xs) ≤ p = simp length-take (omega arith) in
+      simp length-append (omega (arith, lines-few n, line-few (layer p n xs)))
+
+-- lines that have a phase have some
+pub width-some : (v p i : ℕ) → i < v * p → 1 ≤ p
+width-some v zero i h = absurd (omega (arith, mul-zero v))
+width-some v (suc p) i h = omega arith
+
+-- what stands after v layers makes no difference to their lines
+pub lines-before : (n p v : ℕ) (xs ys : List ℕ) → n ≤ v → length xs ≡ v * p → linesOf n p (xs ++ ys) ≡ linesOf n p xs
+unfolding linesOf
+lines-before zero p v xs ys h e = refl
+lines-before (suc n) p v xs ys h e = rw (lines-before n p v xs ys (omega arith) e, layer-before p v n xs ys h e)
+
+-- ---- the first line, word by word
+
+pub ok-words : (a : Record) → okText a
+    ≡ (111 ∷ 107 ∷ 32 ∷ []) ++ (written (a .ports) ++ ending 2 ∷ []) ++ (written (a .layers) ++ ending 1 ∷ [])
+    ++ (written (a .scale) ++ ending 0 ∷ [])
+unfolding okText headed joined ending
+ok-words a = simp append-assoc
+
+pub refused-words : (k : ℕ) → refusedText k
+    ≡ (114 ∷ 101 ∷ 102 ∷ 117 ∷ 115 ∷ 101 ∷ 100 ∷ 32 ∷ []) ++ (written k ++ ending 0 ∷ [])
+unfolding refusedText headed joined ending
+refused-words k = refl
+
+pub unreadable-bytes : unreadableText ≡ 117 ∷ 110 ∷ 114 ∷ 101 ∷ 97 ∷ 100 ∷ 97 ∷ 98 ∷ 108 ∷ 101 ∷ 10 ∷ []
+unfolding unreadableText headed joined ending
+unreadable-bytes = refl
+
+-- `ok 32 8 256` and a newline
+pub ok-few : (a : Record) → a .ports < 100 → a .layers < 10 → length (okText a) ≤ 12
+ok-few a h k =
+    rw (ok-words a)
+    (simp length-append
+    (omega (arith, written-two-few (a .ports) h, written-one-few (a .layers) k, written-few (a .scale))))

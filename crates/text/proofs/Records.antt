@@ -1,0 +1,97 @@
+-- The text of a record: by its refusal, by its numbers, and how long it is.
+use mathlib.Core.Path.{_≡_, ap, _∙_}
+use mathlib.Core.Bool.{true, _&&_}
+use mathlib.Core.List.{List, _++_}
+use Prim.Native.Nat.{ℕ, _*_, _<_, _≤_}
+use native.Mathlib.Nat.{mul-le-mul}
+use native.Mathlib.Omega.{arith}
+use lib.Dec.{eqb, leb, lit<}
+use lib.ListN.{length, length-append}
+use borrow.Author.Tests.{leb-true, le-leb, eq-eqb, ne-eqb}
+use Rattle.ground.proofs.Booleans.{and-true-left, and-true-right, cond-both}
+use Rattle.plan.specs.declared.Record.{Record}
+use Rattle.text.specs.Text.{linesOf, okText, refusedText, unreadableText, recordText, printable, longest}
+use Rattle.text.proofs.Words.{written-few}
+use Rattle.text.proofs.Lines.{lines-few, lines-before, ok-words, ok-few, refused-words, unreadable-bytes}
+
+-- ---- by its refusal
+
+module _ (a : Record) (phases : List ℕ) where
+  pub text-accepted : a .refusal ≡ 0 → recordText a phases ≡ okText a ++ linesOf (a .layers) (a .ports) phases
+  unfolding recordText
+  text-accepted e = rw (eq-eqb (a .refusal) 0 e)
+
+  pub text-refused : (a .refusal ≡ 0 → ⊥) → recordText a phases ≡ refusedText (a .refusal)
+  unfolding recordText
+  text-refused e = rw (ne-eqb (a .refusal) 0 e)
+
+-- phases after those of its layers make no difference
+pub text-before : (a : Record) (xs ys : List ℕ) → a .refusal ≡ 0 → length xs ≡ a .layers * a .ports
+    → recordText a (xs ++ ys) ≡ recordText a xs
+text-before a xs ys e l =
+    rw (text-accepted a xs e, text-accepted a (xs ++ ys) e, lines-before (a .layers) (a .ports) (a .layers) xs ys (omega arith) l)
+
+-- ---- by its numbers: those of a record that is printed
+
+pub record Limits (a : Record) (phases : ℕ) : Type 0 where
+  pub refusal : a .refusal ≤ 999
+  pub ports : a .ports ≤ 32
+  pub layers : a .layers ≤ 8
+  pub scale : a .scale ≤ 999
+  pub entries : a .layers * a .ports ≤ phases
+
+module _ (a : Record) (phases : ℕ) where
+  pub limits : printable a phases ≡ true → Limits a phases
+  unfolding printable
+  limits e =
+      let refusal = leb (a .refusal) 999 in
+      let ports = leb (a .ports) 32 in
+      let layers = leb (a .layers) 8 in
+      let scale = leb (a .scale) 999 in
+      let four = and-true-left (refusal && ports && layers && scale) _ e in
+      let three = and-true-left (refusal && ports && layers) scale four in
+      let two = and-true-left (refusal && ports) layers three in
+      record {
+        refusal = leb-true _ _ (and-true-left refusal ports two);
+        ports = leb-true _ _ (and-true-right refusal ports two);
+        layers = leb-true _ _ (and-true-right (refusal && ports) layers three);
+        scale = leb-true _ _ (and-true-right (refusal && ports && layers) scale four);
+        entries = leb-true _ _ (and-true-right (refusal && ports && layers && scale) _ e);
+      }
+
+  pub within-limits : Limits a phases → printable a phases ≡ true
+  unfolding printable
+  within-limits l =
+      rw (
+        le-leb _ _ (l .refusal),
+        le-leb _ _ (l .ports),
+        le-leb _ _ (l .layers),
+        le-leb _ _ (l .scale),
+        le-leb _ _ (l .entries),
+      )
+
+-- ---- how long it is
+
+-- no text is longer than the longest
+pub record-few : {n : ℕ} (a : Record) (phases : List ℕ) → Limits a n → length (recordText a phases) ≤ longest
+unfolding recordText
+record-few a phases l =
+    let entries : a .layers * a .ports ≤ 8 * 32 = mul-le-mul (l .layers) (l .ports) in
+    let first = ok-few a (omega (arith, l .ports)) (omega (arith, l .layers)) in
+    cond-both (λ (text : List ℕ). length text ≤ longest) (eqb (a .refusal) 0)
+    (simp length-append (omega (arith, first, lines-few (a .ports) phases (a .layers))))
+    (rw refused-words (simp length-append (omega (arith, written-few (a .refusal)))))
+
+-- and none is empty
+pub record-some : (a : Record) (phases : List ℕ) → 0 < length (recordText a phases)
+unfolding recordText
+record-some a phases =
+    cond-both (λ (text : List ℕ). 0 < length text) (eqb (a .refusal) 0)
+    (rw ok-words (simp length-append (omega arith)))
+    (rw refused-words (simp length-append (omega arith)))
+
+pub unreadable-few : length unreadableText ≤ longest
+unreadable-few = rw unreadable-bytes (omega arith)
+
+pub unreadable-some : 0 < length unreadableText
+unreadable-some = rw unreadable-bytes (lit< tt)

@@ -1,0 +1,93 @@
+-- `write::lines` meets its contract: each turn has one phase more written after those that stand, and what follows it.
+use mathlib.Core.Path.{_≡_}
+use Prim.Native.Nat.{_-_, _%_, _*_, _<_, _≤_}
+use native.Mathlib.Nat.{mod-lt}
+use native.Mathlib.Omega.{arith}
+use Rattle.text.specs.Text.{Adds}
+use Rattle.text.proofs.Adds.{adds-nothing, adds-then, adds-length}
+use Rattle.text.proofs.Lines.{linesBegun, lines-nothing, lines-next, lines-begun-few, lines-all, width-some}
+use Rattle.text.proofs.write.lines.Statement.{statement}
+use Rattle.text.proofs.write.lines.Tie as tie
+
+abbrev Inv-loop : tie.InvT-loop
+Inv-loop phases p v at out₀ n k₀ i₀ out k i = (i ≤ v * p) × Adds (linesBegun p i phases) at out₀ k out
+
+abbrev μ-loop : tie.MeasureT-loop
+μ-loop phases p v at out₀ n k₀ i₀ out k i = v * p - i
+
+mul-n : tie.Need-mul-n Inv-loop μ-loop
+mul-n c = omega arith
+
+loop-holds : tie.Need-loop-holds Inv-loop μ-loop
+loop-holds c = (omega arith, rw lines-nothing (adds-nothing _ _ (omega arith)))
+
+-- a line has a phase, and the place of a phase is within it
+some : (c : tie.In-loop Inv-loop μ-loop) → 1 ≤ c .before .before .before .before .args .p
+some c = width-some _ _ _ (c .loop-test .taken)
+
+place : (c : tie.In-loop Inv-loop μ-loop)
+    → let p = c .before .before .before .before .args .p in c .before .loop .i % p < p
+place c = mod-lt _ (some c)
+
+shared-slice-read-x : tie.Need-shared-slice-read-x Inv-loop μ-loop
+shared-slice-read-x c = omega arith
+
+cast-x : tie.Need-cast-x Inv-loop μ-loop
+cast-x c = omega (arith, c .shared-slice-known2 .given (c .before .before .loop .i))
+
+sub-left : tie.Need-sub-left Inv-loop μ-loop
+sub-left c = some (c .before)
+
+rem-left : tie.Need-rem-left Inv-loop μ-loop
+rem-left c = some (c .before)
+
+sub-left-2 : tie.Need-sub-left-2 Inv-loop μ-loop
+sub-left-2 c = omega (arith, place (c .before))
+
+ended-requires : tie.Need-ended-requires Inv-loop μ-loop
+ended-requires c κs =
+    let l = c .before .before .before .loop in
+    let a = c .before .before .before .before .before .before .args in
+    omega (arith, adds-length (l .inv .1), l .inv .1 .long, lines-begun-few (a .p) (a .phases .now) (l .i))
+
+add-i : tie.Need-add-i Inv-loop μ-loop
+add-i c = omega arith
+
+loop-less : tie.Need-loop-less Inv-loop μ-loop
+loop-less c = omega arith
+
+loop-again : tie.Need-loop-again Inv-loop μ-loop
+loop-again c =
+    let e = c .before .before in
+    let l = e .before .before .before .before .loop in
+    (omega arith, rw lines-next (adds-then (l .inv .1) (e .ended .ensures)))
+
+same-length : tie.Need-same-length Inv-loop μ-loop
+same-length c = adds-length (c .before .loop .inv .1)
+
+returns : tie.Need-returns Inv-loop μ-loop
+returns c =
+    let l = c .before .loop in
+    let s = c .before .before .before .before in
+    let all : l .i ≡ s .args .v * s .args .p = omega arith in
+    rw (← lines-all (s .args .p) (s .args .phases .now) (s .args .v) (s .pre .0), ← all) (l .inv .1)
+
+pub lines-spec : {M : Type 1} → statement M
+lines-spec =
+    tie.close
+    (tie.spec
+    Inv-loop
+    μ-loop
+    mul-n
+    loop-holds
+    shared-slice-read-x
+    cast-x
+    sub-left
+    rem-left
+    sub-left-2
+    ended-requires
+    add-i
+    loop-less
+    loop-again
+    same-length
+    returns)

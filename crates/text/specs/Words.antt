@@ -1,0 +1,45 @@
+-- Lines of words and numbers, in ASCII.
+use mathlib.Core.List.{List, [], _∷_, _++_, map}
+use Prim.Native.Nat.{ℕ, zero, suc, _+_, _/_, _%_}
+use lib.Dec.{ltb}
+use lib.ListN.{length}
+use Rattle.ground.specs.Cases.{_⇒_∣_}
+
+abbrev pub newline : ℕ
+newline = 10
+
+abbrev pub space : ℕ
+space = 32
+
+-- `0`; the other digits follow it
+abbrev pub nought : ℕ
+nought = 48
+
+-- what follows a word after which so many are left: a space, and a newline after the last
+unfoldable pub ending : ℕ → ℕ
+ending zero = newline
+ending (suc left) = space
+
+-- words as a line
+unfoldable pub joined : List (List ℕ) → List ℕ
+joined [] = []
+joined (word ∷ words) = word ++ ending (length words) ∷ joined words
+
+-- the last digit of a number
+abbrev pub digit : ℕ → ℕ
+digit n = nought + n % 10
+
+-- a number below 1000 in decimals, without leading zeros; of a larger one the last three digits
+unfoldable pub written : ℕ → List ℕ
+written n =
+    ltb n 10 ⇒ digit n ∷ []
+    ∣ ltb n 100 ⇒ digit (n / 10) ∷ digit n ∷ []
+    ∣ digit (n / 100) ∷ digit (n / 10) ∷ digit n ∷ []
+
+-- a line of numbers
+unfoldable pub lineOf : List ℕ → List ℕ
+lineOf xs = joined (map written xs)
+
+-- a word, and numbers after it
+unfoldable pub headed : List ℕ → List ℕ → List ℕ
+headed word xs = joined (word ∷ map written xs)

@@ -1,0 +1,84 @@
+// Text for answers, written into a lent buffer.
+use plan::Record;
+use turn::Part;
+ghost use mathlib.Core.Path.{_≡_};
+ghost use mathlib.Core.Bool.{true};
+ghost use Prim.Native.Nat.{_≤_};
+ghost use lib.ListN.{length};
+ghost use Rattle.text.specs.Words.{ending};
+ghost use Rattle.text.specs.Text.{longest, recordText, unreadableText, printable, Writes, Adds};
+
+mod write;
+
+// The bytes of the longest text: `ok 32 8 256`, and 8 lines of 32 phases, each of three digits and what follows it. A
+// buffer of so many has room for every answer.
+pub const LONGEST_TEXT: usize = 12 + 8 * 32 * 4;
+
+// What follows a word after which so many are left: a space, and a newline after the last.
+pub fn ending(left: usize) -> u8
+    ensures { λ b. ⌜ b ≡ ending left ⌝ }
+{
+    if left == 0 { b'\n' } else { b' ' }
+}
+
+// Whether a record has the numbers of an answer, and there are phases for it.
+fn is_printable(a: Record, phases: usize) -> bool
+    ensures { λ t. ⌜ t ≡ printable a phases ⌝ }
+{
+    if 999 < a.refusal {
+        return false;
+    }
+    if 32 < a.ports {
+        return false;
+    }
+    if 8 < a.layers {
+        return false;
+    }
+    if 999 < a.scale {
+        return false;
+    }
+    (a.layers * a.ports) as usize <= phases
+}
+
+// The text of a record, at the front of a buffer that has room for any.
+fn compose(a: Record, phases: &[Part], out: &mut [u8]) -> usize
+    requires { ⌜ (printable a (length (now phases)) ≡ true) × (longest ≤ length (now out)) ⌝ }
+    ensures { λ k. ⌜ Adds (recordText a (now (phases .entry))) 0 (now (out .entry)) k (now (out .exit)) ⌝ }
+{
+    let number = a.refusal;
+    if number != 0 {
+        return write::opened(b"refused ", number, 0, out);
+    }
+    let k = write::accepted(a, out);
+    write::lines(phases, a.ports as usize, a.layers as usize, k, out)
+}
+
+// Writes the text of a record and its phases: `ok`, P, v and the scale, and then a line of phases for each layer; or
+// `refused` and the number. Each line ends with a newline. The text stands at the front of the lent buffer, bytes after it
+// stay, and the number of its bytes is given. Where the text has more bytes than are lent, where a number is larger than
+// any answer's, or where there are fewer phases than v·P, 0 is given and every byte stays. The record 0, 4, 2, 8 with the
+// phases 0 168 0 168 0 72 96 168 gives `ok 4 2 8`, `0 168 0 168` and `0 72 96 168`.
+pub fn answer(a: Record, phases: &[Part], out: &mut [u8]) -> usize
+    ensures { λ k.
+        ⌜ Writes (printable a (length (now (phases .entry)))) (recordText a (now (phases .entry))) (now (out .entry)) k
+        (now (out .exit)) ⌝ }
+{
+    if !is_printable(a, phases.len()) {
+        return 0;
+    }
+    let mut text = [0; LONGEST_TEXT];
+    let k = compose(a, phases, &mut text);
+    if ground::copy(&text, k, out) { k } else { 0 }
+}
+
+// Writes the text for what is no report: `unreadable` and a newline. Gives the number of its bytes; where fewer are lent, 0
+// is given and every byte stays.
+pub fn unreadable(out: &mut [u8]) -> usize
+    ensures { λ k. ⌜ Writes true unreadableText (now (out .entry)) k (now (out .exit)) ⌝ }
+{
+    if ground::copy(b"unreadable\n", 11, out) {
+        11
+    } else {
+        0
+    }
+}
