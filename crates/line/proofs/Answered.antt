@@ -3,14 +3,14 @@ use mathlib.Core.Path.{_≡_, refl, sym, ap, _∙_, subst}
 use mathlib.Core.Logic.{_≢_}
 use mathlib.Core.Bool.{Bool, true, false, not, cond, _||_}
 use mathlib.Core.List.{List, [], _∷_, _++_}
-use Prim.Native.Nat.{ℕ, _-_, _*_, _/_, _%_, _<_, _≤_}
+use Prim.Native.Nat.{ℕ, _-_, _*_, _/_, _%_, _<_}
 use native.Mathlib.Nat.{mul-le-mul}
 use native.Mathlib.Omega.{arith}
-use lib.Dec.{T, T-not, eqb, eqb-refl, leb, leb→le, eqb→eq}
+use lib.Dec.{T, T-not, eqb, eqb-refl, eqb→eq}
 use lib.ListN.{length, replicate, length-replicate, getD-replicate}
-use borrow.Author.Tests.{not-false, eq-eqb, ne-eqb, le-ltb}
+use borrow.Author.Tests.{not-false, eq-eqb, le-ltb}
 use Rattle.ground.specs.Lists.{some, each, every, among}
-use Rattle.ground.specs.First.{first, numbered, None}
+use Rattle.ground.specs.First.{first, numbered}
 use Rattle.ground.proofs.Booleans.{cond-both}
 use Rattle.ground.proofs.Tests.{and-left, and-right, or-left, or-right, every-at}
 use Rattle.ground.proofs.First.{first-none, none-zero, none-within}
@@ -23,7 +23,7 @@ use Rattle.report.specs.Rules.{rule, ownOrder, InRange}
 use Rattle.report.proofs.InRange.{in-range}
 use Rattle.plan.specs.Masks.{bitOf, bit, isZero, barred, rankBarred}
 use Rattle.plan.specs.Answer.{early, test, refusal}
-use Rattle.single.specs.Single.{order, single}
+use Rattle.single.specs.Single.{single}
 use Rattle.single.proofs.Lawful.{single-lawful}
 use Rattle.line.specs.Prints.{fullMask, askedOf, refusalOf}
 
@@ -108,7 +108,8 @@ module _ (r : Report) where
   open-beams : InRange r → tests 10 ≡ false
   unfolding test
   open-beams h =
-      rw (mask-is (h .setting)) (not-barred _ _ (λ k t. full-bit (maskBytes (r .n1) (r .n2)) k (single-lawful .within r h k t)))
+      rw (mask-is (h .setting))
+      (not-barred _ _ (λ k t. full-bit (maskBytes (r .n1) (r .n2)) k (single-lawful .within r h k t)))
 
   -- 8 layers of 32 ports
   room : InRange r → tests 11 ≡ false

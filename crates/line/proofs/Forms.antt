@@ -10,7 +10,8 @@ use Rattle.line.specs.declared.Reading.{Reading}
 use Rattle.line.specs.declared.Reading.the-variants.{Read, Unreadable}
 use Rattle.text.specs.Words.{joined}
 use Rattle.line.specs.Form.{value, valuesOf, Form, Reads}
-use Rattle.line.proofs.Scanned.{words, good, good-decimals, good-joined, joined-good, joined-words}
+use Rattle.line.proofs.Scanned.{words, good}
+use Rattle.line.proofs.Joined.{good-decimals, good-joined, joined-good, joined-words}
 
 -- ---- a line that has the form
 

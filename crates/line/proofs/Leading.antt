@@ -23,14 +23,14 @@ by-test false p q = q refl
 
 -- ---- at a place of a text, by the byte that stands there; past the end stands 0, which is no digit
 
-none-first : (k : ℕ) (bs : List ℕ) → isDigit (getD bs 0 0) ≡ false → lead k bs ≡ []
+no-digit-first : (k : ℕ) (bs : List ℕ) → isDigit (getD bs 0 0) ≡ false → lead k bs ≡ []
 unfolding lead
-none-first zero bs e = refl
-none-first (suc k) [] e = refl
-none-first (suc k) (b ∷ bs) e = rw e
+no-digit-first zero bs e = refl
+no-digit-first (suc k) [] e = refl
+no-digit-first (suc k) (b ∷ bs) e = rw e
 
 pub lead-none : (k : ℕ) (bs : List ℕ) (at : ℕ) → isDigit (getD bs at 0) ≡ false → lead k (drop at bs) ≡ []
-lead-none k bs at e = none-first k (drop at bs) (rw (getD-drop at bs 0 0, add-zero at) e)
+lead-none k bs at e = no-digit-first k (drop at bs) (rw (getD-drop at bs 0 0, add-zero at) e)
 
 pub lead-past : (k : ℕ) (bs : List ℕ) (at : ℕ) → length bs ≤ at → lead k (drop at bs) ≡ []
 unfolding isDigit
@@ -40,16 +40,16 @@ pub lead-zero : (k : ℕ) (bs : List ℕ) → k ≡ 0 → lead k bs ≡ []
 unfolding lead
 lead-zero k bs z = rw z
 
-some-first : (k : ℕ) (b : ℕ) (bs : List ℕ) → 0 < k → isDigit b ≡ true → lead k (b ∷ bs) ≡ b ∷ lead (k - 1) bs
+digit-first : (k : ℕ) (b : ℕ) (bs : List ℕ) → 0 < k → isDigit b ≡ true → lead k (b ∷ bs) ≡ b ∷ lead (k - 1) bs
 unfolding lead
-some-first zero b bs h e = absurd (omega arith)
-some-first (suc k) b bs h e =
+digit-first zero b bs h e = absurd (omega arith)
+digit-first (suc k) b bs h e =
     let fewer : suc k - 1 ≡ k = omega arith in
     rw (e, fewer)
 
 pub lead-some : (k : ℕ) (bs : List ℕ) (at : ℕ) → 0 < k → at < length bs → isDigit (getD bs at 0) ≡ true
     → lead k (drop at bs) ≡ getD bs at 0 ∷ lead (k - 1) (drop (at + 1) bs)
-lead-some k bs at h l e = rw (drop-cons bs at 0 l, add-one) (some-first k (getD bs at 0) (drop (suc at) bs) h e)
+lead-some k bs at h l e = rw (drop-cons bs at 0 l, add-one) (digit-first k (getD bs at 0) (drop (suc at) bs) h e)
 
 -- ---- what leads: digits, at most so many
 

@@ -11,7 +11,8 @@ use Rattle.ground.proofs.Tests.{and-left, and-right, every-at}
 use Rattle.ground.proofs.Booleans.{and-true-left, and-true-right}
 use Rattle.text.specs.Words.{written, lineOf}
 use Rattle.line.specs.Form.{isDigit, value, valueAfter, isDecimal}
-use Rattle.line.proofs.Scanned.{words, joined-words}
+use Rattle.line.proofs.Scanned.{words}
+use Rattle.line.proofs.Joined.{joined-words}
 
 is-true : (b : Bool) → T b → b ≡ true
 is-true true t = refl

@@ -1,17 +1,16 @@
 -- The record for a report and its text: what a call of `phases` with all mask bits ones gives and leaves, and how long the
 -- text is.
 use mathlib.Core.Path.{_≡_, refl, sym, ap, _∙_}
-use mathlib.Core.Bool.{Bool, true, false, cond}
-use mathlib.Core.List.{List, [], _∷_, _++_}
+use mathlib.Core.Bool.{true}
+use mathlib.Core.List.{List}
 use Prim.Native.Nat.{ℕ, zero, suc, _*_, _<_, _≤_}
-use native.Mathlib.Nat.{not-suc-le-zero, le-of-suc-le-suc}
 use native.Mathlib.Omega.{arith}
 use lib.Dec.{eqb, leb, leb→le}
-use lib.ListN.{length, take, drop, replicate}
+use lib.ListN.{length}
 use borrow.Author.Tests.{ltb-false}
 use Rattle.ground.specs.Cases.{_⇒_∣_}
 use Rattle.ground.specs.Lists.{each, among}
-use Rattle.ground.specs.First.{first, numbered, None}
+use Rattle.ground.specs.First.{numbered, None}
 use Rattle.ground.proofs.First.{first-none}
 use Rattle.plan.specs.declared.Record.{Record}
 use Rattle.plan.specs.Plan.{matrix}
@@ -19,8 +18,6 @@ use Rattle.plan.specs.Sound.{Sound}
 use Rattle.plan.specs.Answer.{planned, recordOf, bufferOf, test, refusal, Called}
 use Rattle.plan.proofs.Calls.{rules-passed}
 use Rattle.plan.proofs.Matrix.{length-matrix}
-use Rattle.settings.specs.Settings.{isSetting, maskBytes}
-use Rattle.settings.proofs.Known.{mask-few}
 use Rattle.report.specs.declared.Report.{Report}
 use Rattle.single.specs.Plan.{plan}
 use Rattle.single.specs.Single.{order, single}
@@ -35,26 +32,6 @@ use Rattle.line.specs.declared.Answer.the-variants.{NoRoom}
 use Rattle.line.specs.declared.Printed.{Printed}
 use Rattle.line.specs.Prints.{fullMask, askedOf, refusalOf, recordFor, answerBy, answerOf, textOf, Outcome, Prints}
 use Rattle.line.proofs.Answered.{first-passes}
-
--- ---- the mask
-
-take-replicate : {A : Type 0} (n m : ℕ) (a : A) → n ≤ m → take n (replicate m a) ≡ replicate n a
-take-replicate zero m a h = refl
-take-replicate (suc n) zero a h = absurd (not-suc-le-zero h)
-take-replicate {A} (suc n) (suc m) a h = ap {B = List A} (λ xs. a ∷ xs) (take-replicate n m a (le-of-suc-le-suc h))
-
-module _ (n1 n2 : ℕ) {n : ℕ} (e : n ≡ (isSetting n1 n2 ⇒ maskBytes n1 n2 ∣ 0)) where
-  pub bytes-few : n ≤ 32
-  bytes-few = rw e (by-setting (isSetting n1 n2) refl)
-    where
-      by-setting : (b : Bool) → isSetting n1 n2 ≡ b → cond b (maskBytes n1 n2) 0 ≤ 32
-      by-setting true s = mask-few n1 n2 s
-      by-setting false s = omega arith
-
-  -- so many of 32 bytes are the mask
-  pub bytes-full : take n (replicate 32 255) ≡ fullMask n1 n2
-  unfolding fullMask
-  bytes-full = take-replicate n 32 255 bytes-few ∙ ap (λ (k : ℕ). replicate k 255) e
 
 module _ (r : Report) where
   -- ---- the record
@@ -124,7 +101,8 @@ module _ (r : Report) where
         → Writes (printable given (length left)) (recordText given left) buffer n out
         → Writes true (textOf (Read r)) buffer n out
     writes-given {n} {buffer} {out} size w =
-        let may : printable given (length left) ≡ true = rw (size, record-given) (within-limits (recordFor r) 256 record-limits) in
+        let limits = within-limits (recordFor r) 256 record-limits in
+        let may : printable given (length left) ≡ true = rw (size, record-given) limits in
         rw (may, text-given) at w
 
 -- ---- what is given and left

@@ -1,12 +1,10 @@
 -- Each public function of the crate has one outcome on every input: any two that its contract admits are equal, the
 -- reading, or the answer, the length and every byte of the buffer.
-use mathlib.Core.Path.{_≡_, sym, ap, _∙_}
-use mathlib.Core.Bool.{true}
+use mathlib.Core.Path.{_≡_, sym, _∙_}
 use mathlib.Core.List.{List}
 use Prim.Native.Nat.{ℕ}
 use denote.Ref.{now}
-use lib.ListN.{length, drop}
-use Rattle.ground.specs.Cases.{_⇒_∣_}
+use lib.ListN.{length}
 use Rattle.ground.specs.Unique.{Unique, UniqueLeft}
 use Rattle.line.specs.declared.Reading.{Reading}
 use Rattle.line.specs.declared.Printed.{Printed}

@@ -10,7 +10,7 @@ use lib.ListN.{length, getD, length-append, length-take}
 use Rattle.plan.specs.declared.Record.{Record}
 use Rattle.plan.specs.Plan.{layer}
 use Rattle.plan.proofs.Layers.{layer-before}
-use Rattle.text.specs.Words.{ending, joined, written, lineOf, headed}
+use Rattle.text.specs.Words.{ending, joined, ended, headed}
 use Rattle.text.specs.Text.{linesOf, okText, refusedText, unreadableText}
 use Rattle.text.proofs.Words.{written-few, written-one-few, written-two-few}
 use Rattle.text.proofs.Words.{lineBegun, line-nothing, part-next, part-all, line-few}
@@ -20,7 +20,7 @@ use Rattle.text.proofs.Words.{lineBegun, line-nothing, part-next, part-
 -- the first i phases of lines of p
 unfoldable pub linesBegun : ℕ → ℕ → List ℕ → List ℕ
 linesBegun p zero xs = []
-linesBegun p (suc i) xs = linesBegun p i xs ++ (written (getD xs i 0) ++ ending (p - 1 - i % p) ∷ [])
+linesBegun p (suc i) xs = linesBegun p i xs ++ ended (getD xs i 0) (p - 1 - i % p)
 
 module _ (p : ℕ) (xs : List ℕ) where
   pub lines-nothing : linesBegun p 0 xs ≡ []
@@ -28,7 +28,7 @@ module _ (p : ℕ) (xs : List ℕ) where
   lines-nothing = refl
 
   pub lines-next : (i : ℕ)
-      → linesBegun p (i + 1) xs ≡ linesBegun p i xs ++ (written (getD xs i 0) ++ ending (p - 1 - i % p) ∷ [])
+      → linesBegun p (i + 1) xs ≡ linesBegun p i xs ++ ended (getD xs i 0) (p - 1 - i % p)
   unfolding linesBegun
   lines-next i = rw add-one
 
@@ -81,13 +81,13 @@ lines-before (suc n) p v xs ys h e = rw (lines-before n p v xs ys (omega arith) 
 -- ---- the first line, word by word
 
 pub ok-words : (a : Record) → okText a
-    ≡ (111 ∷ 107 ∷ 32 ∷ []) ++ (written (a .ports) ++ ending 2 ∷ []) ++ (written (a .layers) ++ ending 1 ∷ [])
-    ++ (written (a .scale) ++ ending 0 ∷ [])
+    ≡ (111 ∷ 107 ∷ 32 ∷ []) ++ ended (a .ports) 2 ++ ended (a .layers) 1
+    ++ ended (a .scale) 0
 unfolding okText headed joined ending
 ok-words a = simp append-assoc
 
 pub refused-words : (k : ℕ) → refusedText k
-    ≡ (114 ∷ 101 ∷ 102 ∷ 117 ∷ 115 ∷ 101 ∷ 100 ∷ 32 ∷ []) ++ (written k ++ ending 0 ∷ [])
+    ≡ (114 ∷ 101 ∷ 102 ∷ 117 ∷ 115 ∷ 101 ∷ 100 ∷ 32 ∷ []) ++ ended k 0
 unfolding refusedText headed joined ending
 refused-words k = refl
 

@@ -1,5 +1,5 @@
 -- The text of a record: by its refusal, by its numbers, and how long it is.
-use mathlib.Core.Path.{_≡_, ap, _∙_}
+use mathlib.Core.Path.{_≡_}
 use mathlib.Core.Bool.{true, _&&_}
 use mathlib.Core.List.{List, _++_}
 use Prim.Native.Nat.{ℕ, _*_, _<_, _≤_}
@@ -29,7 +29,8 @@ module _ (a : Record) (phases : List ℕ) where
 pub text-before : (a : Record) (xs ys : List ℕ) → a .refusal ≡ 0 → length xs ≡ a .layers * a .ports
     → recordText a (xs ++ ys) ≡ recordText a xs
 text-before a xs ys e l =
-    rw (text-accepted a xs e, text-accepted a (xs ++ ys) e, lines-before (a .layers) (a .ports) (a .layers) xs ys (omega arith) l)
+    let lines = lines-before (a .layers) (a .ports) (a .layers) xs ys (omega arith) l in
+    rw (text-accepted a xs e, text-accepted a (xs ++ ys) e, lines)
 
 -- ---- by its numbers: those of a record that is printed
 

@@ -10,7 +10,7 @@ use lib.ListN.{length, take, drop, getD, length-append, length-take, length-drop
 use lib.Seq.{getD-take, getD-drop}
 use borrow.Author.Tests.{lt-ltb, le-ltb}
 use Rattle.ground.proofs.Booleans.{cond-both}
-use Rattle.text.specs.Words.{digit, ending, joined, written, lineOf}
+use Rattle.text.specs.Words.{digit, ending, joined, written, ended, lineOf}
 
 -- ---- a number, by its digits
 
@@ -34,7 +34,7 @@ module _ (n : ℕ) where
       (cond-both (λ (ds : List ℕ). length ds ≤ 3) (ltb n 100) (lit≤ tt) (lit≤ tt))
 
   -- and with what follows it
-  pub ended-few : (left : ℕ) → length (written n ++ ending left ∷ []) ≤ 4
+  pub ended-few : (left : ℕ) → length (ended n left) ≤ 4
   ended-few left = simp length-append (omega (arith, written-few))
 
   -- one digit below 10, two at most below 100
@@ -78,7 +78,7 @@ unfolding begun
 line-nothing xs = refl
 
 line-next : (xs : List ℕ) (i : ℕ) → i < length xs
-    → lineBegun (i + 1) xs ≡ lineBegun i xs ++ (written (getD xs i 0) ++ ending (length xs - (i + 1)) ∷ [])
+    → lineBegun (i + 1) xs ≡ lineBegun i xs ++ ended (getD xs i 0) (length xs - (i + 1))
 line-next xs i h =
     let size = length-map xs written in
     rw (add-one, begun-next (map written xs) i (written 0) (rw size h), size, List·getD-map written xs i 0)
@@ -96,7 +96,7 @@ module _ (list : List ℕ) (from p i : ℕ) (h : from + p ≤ length list) where
   size = simp (length-take, length-drop) (omega arith)
 
   pub part-next : i < p
-      → lineBegun (i + 1) xs ≡ lineBegun i xs ++ (written (getD list (from + i) 0) ++ ending (p - (i + 1)) ∷ [])
+      → lineBegun (i + 1) xs ≡ lineBegun i xs ++ ended (getD list (from + i) 0) (p - (i + 1))
   part-next l = line-next xs i (rw size l) ∙ rw (size, getD-take p (drop from list) i 0 l, getD-drop from list i 0)
 
   pub part-all : i ≡ p → lineBegun i xs ≡ lineOf xs

@@ -36,6 +36,10 @@ written n =
     ∣ ltb n 100 ⇒ digit (n / 10) ∷ digit n ∷ []
     ∣ digit (n / 100) ∷ digit (n / 10) ∷ digit n ∷ []
 
+-- a number, and what follows it where so many words are left
+abbrev pub ended : ℕ → ℕ → List ℕ
+ended n left = written n ++ ending left ∷ []
+
 -- a line of numbers
 unfoldable pub lineOf : List ℕ → List ℕ
 lineOf xs = joined (map written xs)

@@ -2,10 +2,10 @@
 use plan::Record;
 use turn::Part;
 ghost use mathlib.Core.Path.{_≡_};
-ghost use mathlib.Core.List.{[], _∷_, _++_};
+ghost use mathlib.Core.List.{_++_};
 ghost use Prim.Native.Nat.{_+_, _*_, _≤_};
 ghost use lib.ListN.{length};
-ghost use Rattle.text.specs.Words.{ending, digit, written};
+ghost use Rattle.text.specs.Words.{digit, written, ended};
 ghost use Rattle.text.specs.Text.{linesOf, okText, Adds};
 
 // The last digit of a number.
@@ -40,7 +40,7 @@ fn decimal(n: u32, at: usize, out: &mut [u8]) -> usize
 // A number, and what follows it where so many words are left.
 fn ended(n: u32, left: usize, at: usize, out: &mut [u8]) -> usize
     requires { ⌜ at + 4 ≤ length (now out) ⌝ }
-    ensures { λ k. ⌜ Adds (written n ++ ending left ∷ []) at (now (out .entry)) k (now (out .exit)) ⌝ }
+    ensures { λ k. ⌜ Adds (ended n left) at (now (out .entry)) k (now (out .exit)) ⌝ }
 {
     let k = decimal(n, at, out);
     out[k] = crate::ending(left);
@@ -67,7 +67,7 @@ pub fn lines(phases: &[Part], p: usize, v: usize, at: usize, out: &mut [u8]) -> 
 // A word at the front, and a number after it.
 pub fn opened(word: &[u8], n: u32, left: usize, out: &mut [u8]) -> usize
     requires { ⌜ length (now word) + 4 ≤ length (now out) ⌝ }
-    ensures { λ k. ⌜ Adds (now (word .entry) ++ (written n ++ ending left ∷ [])) 0 (now (out .entry)) k (now (out .exit)) ⌝ }
+    ensures { λ k. ⌜ Adds (now (word .entry) ++ ended n left) 0 (now (out .entry)) k (now (out .exit)) ⌝ }
 {
     let w = word.len();
     ground::copy(word, w, out);

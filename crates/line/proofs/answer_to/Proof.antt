@@ -3,13 +3,13 @@ use mathlib.Core.Path.{refl, sym}
 use Prim.Native.Nat.{_≤_}
 use native.Mathlib.Omega.{arith}
 use lib.ListN.{replicate, length-take}
-use borrow.Author.Needs.{needs}
 use Rattle.plan.specs.Plan.{matrix}
 use Rattle.plan.specs.Answer.{Called}
 use Rattle.single.specs.Plan.{plan}
 use Rattle.single.specs.Single.{single}
 use Rattle.line.specs.Prints.{fullMask}
-use Rattle.line.proofs.Texts.{bytes-few, bytes-full, outcome-read}
+use Rattle.line.proofs.Mask.{bytes-few, bytes-full}
+use Rattle.line.proofs.Texts.{outcome-read}
 use Rattle.line.proofs.answer_to.Statement.{statement}
 use Rattle.line.proofs.answer_to.Tie as tie
 

@@ -122,9 +122,9 @@ returns-4 c =
     let t = c .before .before .before in
     let l = t .loop in
     let line : List ℕ = t .before .before .before .args .line .now in
-    let none = words-none (8 - l .j) (drop (l .at) line) (omega arith) in
+    let no-words = words-none (8 - l .j) (drop (l .at) line) (omega arith) in
     let all : map value (words 8 line) ≡ l .values =
-    l .inv .4 ∙ rw (none, append-nil) (take-all (l .j) (l .values) (omega arith)) in
+    l .inv .4 ∙ rw (no-words, append-nil) (take-all (l .j) (l .values) (omega arith)) in
     reads-report line (omega arith)
     (l .inv .3 ∙ good-past (8 - l .j) (l .at) line (omega arith) (omega arith))
     (all ∙ sym (c .report-of .ensures))

@@ -3,7 +3,7 @@ use mathlib.Core.Path.{refl}
 use mathlib.Core.List.{List, [], _∷_, _++_}
 use Prim.Native.Nat.{ℕ, _≤_}
 use native.Mathlib.Omega.{arith}
-use Rattle.text.specs.Words.{ending, written}
+use Rattle.text.specs.Words.{ended}
 use Rattle.text.specs.Text.{okText, Adds}
 use Rattle.text.proofs.Adds.{adds-then, adds-length}
 use Rattle.text.proofs.Words.{ended-few}
@@ -25,12 +25,12 @@ word = 111 ∷ 107 ∷ 32 ∷ []
 
 first : (c : tie.After-opened)
     → let a = start c .args in
-    Adds (word ++ (written (a .a .ports) ++ ending 2 ∷ [])) 0 (a .out .now) (c .opened .result) (c .opened .last .1 .1 .1 .0)
+    Adds (word ++ ended (a .a .ports) 2) 0 (a .out .now) (c .opened .result) (c .opened .last .1 .1 .1 .0)
 first c = c .opened .ensures
 
 second : (c : tie.After-ended)
     → let a = start (opened-of c) .args in
-    Adds (word ++ (written (a .a .ports) ++ ending 2 ∷ []) ++ (written (a .a .layers) ++ ending 1 ∷ [])) 0 (a .out .now)
+    Adds (word ++ ended (a .a .ports) 2 ++ ended (a .a .layers) 1) 0 (a .out .now)
     (c .ended .result) (c .ended .last .1 .1 .1 .0)
 second c = adds-then (first (opened-of c)) (c .ended .ensures)
 

@@ -42,7 +42,8 @@ returns-2 : tie.Need-returns-2
 returns-2 c =
     let e = c .before in
     let d = e .before .before in
-    two-digits _ _ _ (d .before .before .pre) (d .digit .ensures) (e .digit2 .ensures) (e .before .if1 .left) (c .if2 .taken)
+    two-digits _ _ _ (d .before .before .pre) (d .digit .ensures) (e .digit2 .ensures) (e .before .if1 .left)
+    (c .if2 .taken)
 
 same-length-2 : tie.Need-same-length-2
 same-length-2 c = adds-length (returns-2 c)

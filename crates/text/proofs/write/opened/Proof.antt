@@ -1,9 +1,9 @@
 -- `write::opened` meets its contract: the word stands, and then the number.
 use mathlib.Core.Path.{refl}
-use mathlib.Core.List.{[], _∷_, _++_}
+use mathlib.Core.List.{_++_}
 use native.Mathlib.Omega.{arith}
 use lib.ListN.{length}
-use Rattle.text.specs.Words.{ending, written}
+use Rattle.text.specs.Words.{ended}
 use Rattle.text.specs.Text.{Adds}
 use Rattle.text.proofs.Adds.{adds-copy, adds-then, adds-length}
 use Rattle.text.proofs.write.opened.Statement.{statement}
@@ -18,7 +18,7 @@ first c = adds-copy _ _ _ refl (omega (arith, start c .pre)) (c .copy .ensures)
 
 whole : (c : tie.After-ended)
     → let a = start (c .before .before .before .before) .args in
-    Adds (a .word .now ++ (written (a .n) ++ ending (a .left) ∷ [])) 0 (a .out .now) (c .ended .result) (c .ended .last .1 .1 .1 .0)
+    Adds (a .word .now ++ ended (a .n) (a .left)) 0 (a .out .now) (c .ended .result) (c .ended .last .1 .1 .1 .0)
 whole c = adds-then (first (c .before .before .before .before)) (c .ended .ensures)
 
 copy-requires : tie.Need-copy-requires
