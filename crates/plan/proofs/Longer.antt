@@ -1,19 +1,20 @@
--- A longer buffer gets the same record and the same answer, and keeps its rest; and no layer in it is empty.
+-- A longer buffer gets the same record and the same answer, and keeps its rest; and every layer in it has P entries.
 use mathlib.Core.Path.{_≡_, refl, sym, ap, _∙_}
 use mathlib.Core.List.{List, _++_, append-assoc}
 use Prim.Native.Nat.{ℕ, _*_, _<_, _≤_}
 use native.Mathlib.Omega.{arith}
 use lib.IntN.{ℤ}
-use lib.ListN.{length, drop, length-append}
+use lib.ListN.{length, drop, length-append, length-map}
 use lib.Seq.{drop-append-le}
+use Rattle.weight.specs.Table.{weight, pairs}
 use Rattle.plan.specs.declared.Record.{Record}
-use Rattle.plan.specs.Plan.{layer}
+use Rattle.plan.specs.Plan.{layerAt, columnOf, layer}
 use Rattle.plan.specs.Answer.{Codebook, Called, Phases, Weights}
 use Rattle.plan.specs.Lawful.{Lawful}
 use Rattle.plan.proofs.Matrix.{layer-long, matrix-layer}
 use Rattle.plan.proofs.Answers.{number-given, as-accepted}
 use Rattle.plan.proofs.Masked.{more-room}
-use Rattle.plan.proofs.Calls.{sound, fits, entries, left-layer, length-weights}
+use Rattle.plan.proofs.Calls.{sound, fits, entries, left-layer, length-weights, left-layer-weights}
 
 module _ {R : Type 0} (b : Codebook R) {InRange : R → Type 0} (lawful : Lawful b InRange)
     (r : R) (mask : List ℕ) (ranks : ℕ) where
@@ -55,3 +56,10 @@ module _ {R : Type 0} (b : Codebook R) {InRange : R → Type 0} (lawful : Lawful
     longer-weights more call′ =
         longer more _ (length-weights b lawful r mask ranks call e) (let f = fits b lawful r mask ranks _ call e in omega arith)
         (simp length-append (omega arith)) call call′ e
+
+    -- and so has every layer of weights
+    pub weights-whole : (j : ℕ) → j < b .plan r .v → length (layer (b .plan r .ports) j (pairs left)) ≡ b .plan r .ports
+    weights-whole j h =
+        ap length (left-layer-weights b lawful r mask ranks call e j h)
+        ∙ length-map (columnOf (b .plan r) (layerAt (b .plan r) j)) weight
+        ∙ layer-long (b .plan r) (sound b lawful r mask ranks _ call e) j h

@@ -20,7 +20,7 @@ const FEW: usize = 112;
 
 const ROOM_FOR_FEW: usize = 128;
 
-// The room for the largest matrix: 8 layers of 32 ports.
+// The room for the largest matrix, 8 layers of 32 ports, and sixteen entries more.
 pub const ROOM: usize = 272;
 
 // The phases of a drawing of n entries, at most 112.
