@@ -19,9 +19,6 @@ few c = let r = c .before .before .args .r in bytes-few (r .n1) (r .n2) (c .mask
 mask-bytes-requires : tie.Need-mask-bytes-requires
 mask-bytes-requires c κs = tt
 
-cast-bytes : tie.Need-cast-bytes
-cast-bytes c = omega arith
-
 array-share-prefix-ones : tie.Need-array-share-prefix-ones
 array-share-prefix-ones c = few c
 
@@ -56,9 +53,6 @@ answer-by-requires c κs = tt
 given-requires : tie.Need-given-requires
 given-requires c κs = tt
 
-same-length : tie.Need-same-length
-same-length c = c .before .before .before .before .answer .kept .1 .1 .0
-
 returns : tie.Need-returns
 returns c =
     let a = c .before .before .before .before in
@@ -71,7 +65,7 @@ answer-to-spec =
     tie.close
     (tie.spec
     mask-bytes-requires
-    cast-bytes
+    (λ c. omega arith)
     array-share-prefix-ones
     slice-aggregate-phases
     slice-aggregate-phases-2
@@ -80,5 +74,5 @@ answer-to-spec =
     answer-requires
     answer-by-requires
     given-requires
-    same-length
+    (λ c. c .before .before .before .before .answer .kept .1 .1 .0)
     returns)

@@ -5,17 +5,8 @@ use Rattle.line.proofs.Texts.{outcome-of}
 use Rattle.line.proofs.print.Statement.{statement}
 use Rattle.line.proofs.print.Tie as tie
 
-read-requires : tie.Need-read-requires
-read-requires c κs = tt
-
-enum-known-r : tie.Need-enum-known-r
-enum-known-r c = search needs
-
 answer-to-requires : tie.Need-answer-to-requires
 answer-to-requires c κs = tt
-
-same-length : tie.Need-same-length
-same-length c = c .before .before .answer-to .kept .1 .0
 
 returns : tie.Need-returns
 returns c =
@@ -27,17 +18,11 @@ returns c =
       outcome = rw (r .r .given .1) (a .answer-to .ensures);
     }
 
-enum-told : tie.Need-enum-told
-enum-told c = search needs
-
 unreadable-requires : tie.Need-unreadable-requires
 unreadable-requires c κs = tt
 
 given-requires : tie.Need-given-requires
 given-requires c κs = tt
-
-same-length-2 : tie.Need-same-length-2
-same-length-2 c = c .before .before .before .unreadable .kept .0
 
 returns-2 : tie.Need-returns-2
 returns-2 c =
@@ -53,13 +38,13 @@ pub print-spec : {M : Type 1} → statement M
 print-spec =
     tie.close
     (tie.spec
-    read-requires
-    enum-known-r
+    (λ c κs. tt)
+    (λ c. search needs)
     answer-to-requires
-    same-length
+    (λ c. c .before .before .answer-to .kept .1 .0)
     returns
-    enum-told
+    (λ c. search needs)
     unreadable-requires
     given-requires
-    same-length-2
+    (λ c. c .before .before .before .unreadable .kept .0)
     returns-2)

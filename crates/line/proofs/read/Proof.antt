@@ -32,12 +32,6 @@ returns c = too-long _ (omega arith)
 loop-holds : tie.Need-loop-holds Inv-loop μ-loop
 loop-holds c = (omega arith, omega arith, refl, refl, refl)
 
-leading-requires : tie.Need-leading-requires Inv-loop μ-loop
-leading-requires c κs = omega arith
-
-sub-ends : tie.Need-sub-ends Inv-loop μ-loop
-sub-ends c = omega arith
-
 ends-requires : tie.Need-ends-requires Inv-loop μ-loop
 ends-requires c κs = (c .leading .ensures, omega arith)
 
@@ -67,21 +61,6 @@ within c =
       ended-within (drop (t .loop .at) line) (7 - t .loop .j) (is-ended c),
       length-drop (t .loop .at) line,
     )
-
-mul-values : tie.Need-mul-values Inv-loop μ-loop
-mul-values c = omega arith
-
-array-write-values : tie.Need-array-write-values Inv-loop μ-loop
-array-write-values c = omega arith
-
-add-at : tie.Need-add-at Inv-loop μ-loop
-add-at c = omega (arith, within (c .before))
-
-add-j : tie.Need-add-j Inv-loop μ-loop
-add-j c = omega arith
-
-loop-less : tie.Need-loop-less Inv-loop μ-loop
-loop-less c = omega arith
 
 -- a number more is stored
 stored-next : {xs : List ℕ} (ns ys : List ℕ) (j n : ℕ) → xs ≡ take j ns ++ n ∷ ys → j < length ns
@@ -114,9 +93,6 @@ returns-3 c =
     let line : List ℕ = t .before .before .before .args .line .now in
     reads-nothing line (l .inv .3 ∙ good-not-past (8 - l .j) (l .at) line (omega arith) (omega arith))
 
-report-of-requires : tie.Need-report-of-requires Inv-loop μ-loop
-report-of-requires c κs = search needs
-
 returns-4 : tie.Need-returns-4 Inv-loop μ-loop
 returns-4 c =
     let t = c .before .before .before in
@@ -137,16 +113,16 @@ read-spec =
     μ-loop
     returns
     loop-holds
-    leading-requires
-    sub-ends
+    (λ c κs. omega arith)
+    (λ c. omega arith)
     ends-requires
     returns-2
-    mul-values
-    array-write-values
-    add-at
-    add-j
-    loop-less
+    (λ c. omega arith)
+    (λ c. omega arith)
+    (λ c. omega (arith, within (c .before)))
+    (λ c. omega arith)
+    (λ c. omega arith)
     loop-again
     returns-3
-    report-of-requires
+    (λ c κs. search needs)
     returns-4)

@@ -42,9 +42,6 @@ returns c = sym (gives-one _ _ _ _ (c .if1 .taken))
 returns-2 : tie.Need-returns-2
 returns-2 c = sym (gives-two _ _ _ _ (c .if2 .taken))
 
-cast-if3 : tie.Need-cast-if3
-cast-if3 c = search needs
-
 returns-3 : tie.Need-returns-3
 returns-3 c =
     let e2 = c .before .before in
@@ -57,9 +54,6 @@ returns-4 c =
     let e2 = e3 .before .before in
     let e1 = e2 .before .before in
     sym (gives-four _ _ _ _ (e1 .if1 .left) (e2 .if2 .left) (e3 .if3 .left) (c .if4 .taken))
-
-rank-barred-requires : tie.Need-rank-barred-requires
-rank-barred-requires c κs = search needs
 
 returns-5 : tie.Need-returns-5
 returns-5 c =
@@ -81,15 +75,9 @@ returns-6 c =
     (gives-own _ _ _ _ (e1 .if1 .left) (e2 .if2 .left) (e3 .if3 .left) (e4 .if4 .left)
     (sym (e5 .before .rank-barred .ensures) ∙ e5 .if5 .left) (c .if6 .taken))
 
-some-zero-requires : tie.Need-some-zero-requires
-some-zero-requires c κs = search needs
-
 returns-7 : tie.Need-returns-7
 returns-7 c =
     sym (past-six (c .before .before .before .before) ∙ rw (sym (c .before .some-zero .ensures) ∙ c .if7 .taken))
-
-cast-if8 : tie.Need-cast-if8
-cast-if8 c = search needs
 
 returns-8 : tie.Need-returns-8
 returns-8 c = sym (past-seven (c .before .before) ∙ rw (lt-ltb _ _ (c .if8 .taken)))
@@ -103,14 +91,14 @@ admit-spec =
     (tie.spec
     returns
     returns-2
-    cast-if3
+    (λ c. search needs)
     returns-3
     returns-4
-    rank-barred-requires
+    (λ c κs. search needs)
     returns-5
     returns-6
-    some-zero-requires
+    (λ c κs. search needs)
     returns-7
-    cast-if8
+    (λ c. search needs)
     returns-8
     returns-9)

@@ -11,29 +11,14 @@ use Rattle.masks.proofs.is_zero.Tie as tie
 far : (s : tie.Start) → s .args .width * s .args .l ≤ 4294967295 * 4294967295
 far s = mul-le-mul {n₂ = 4294967295} {m₂ = 4294967295} (omega arith) (omega arith)
 
-mul-k : tie.Need-mul-k
-mul-k c = omega (arith, far c)
-
-add-k : tie.Need-add-k
-add-k c = omega (arith, far c)
-
 returns : tie.Need-returns
 unfolding isZero bit
 returns c = rw (List·getD-eq-default {A = ℕ} _ 0 (c .if1 .taken), zero-div)
-
-shared-slice-read-byte : tie.Need-shared-slice-read-byte
-shared-slice-read-byte c = search needs
 
 cast-byte : tie.Need-cast-byte
 cast-byte c =
     let a = c .before .before .args in
     omega (arith, c .shared-slice-known .given ((a .width * a .l + a .m) / 8))
-
-cast-result : tie.Need-cast-result
-cast-result c = search needs
-
-shr-result : tie.Need-shr-result
-shr-result c = search needs
 
 returns-2 : tie.Need-returns-2
 unfolding isZero bit
@@ -43,11 +28,11 @@ pub is-zero-spec : {M : Type 1} → statement M
 is-zero-spec =
     tie.close
     (tie.spec
-    mul-k
-    add-k
+    (λ c. omega (arith, far c))
+    (λ c. omega (arith, far c))
     returns
-    shared-slice-read-byte
+    (λ c. search needs)
     cast-byte
-    cast-result
-    shr-result
+    (λ c. search needs)
+    (λ c. search needs)
     returns-2)

@@ -32,15 +32,6 @@ past-third c =
     past-second (e .before)
     ∙ rw (from-third _ _ _ _ _ (three e), sym (c .before .is-zero2 .ensures) ∙ c .if3 .left)
 
-array-read-is-zero : tie.Need-array-read-is-zero
-array-read-is-zero c = search needs
-
-array-read-is-zero-2 : tie.Need-array-read-is-zero-2
-array-read-is-zero-2 c = search needs
-
-is-zero-requires : tie.Need-is-zero-requires
-is-zero-requires c κs = search needs
-
 returns : tie.Need-returns
 returns c =
     let s = c .before .before .before in
@@ -48,15 +39,6 @@ returns c =
 
 returns-2 : tie.Need-returns-2
 returns-2 c = sym (past-second (c .before) ∙ none-past _ _ _ _ 2 _ (le-of-eq (c .if2 .taken)))
-
-array-read-is-zero-3 : tie.Need-array-read-is-zero-3
-array-read-is-zero-3 c = search needs
-
-array-read-is-zero-4 : tie.Need-array-read-is-zero-4
-array-read-is-zero-4 c = search needs
-
-is-zero-requires-2 : tie.Need-is-zero-requires-2
-is-zero-requires-2 c κs = search needs
 
 returns-3 : tie.Need-returns-3
 returns-3 c =
@@ -68,15 +50,6 @@ returns-3 c =
 returns-4 : tie.Need-returns-4
 returns-4 c = sym (past-third (c .before) ∙ none-past _ _ _ _ 3 _ (le-of-eq (c .if4 .taken)))
 
-array-read-is-zero-5 : tie.Need-array-read-is-zero-5
-array-read-is-zero-5 c = search needs
-
-array-read-is-zero-6 : tie.Need-array-read-is-zero-6
-array-read-is-zero-6 c = search needs
-
-is-zero-requires-3 : tie.Need-is-zero-requires-3
-is-zero-requires-3 c κs = search needs
-
 returns-5 : tie.Need-returns-5
 returns-5 c =
     let e = c .before .before in
@@ -87,17 +60,17 @@ pub later-zero-spec : {M : Type 1} → statement M
 later-zero-spec =
     tie.close
     (tie.spec
-    array-read-is-zero
-    array-read-is-zero-2
-    is-zero-requires
+    (λ c. search needs)
+    (λ c. search needs)
+    (λ c κs. search needs)
     returns
     returns-2
-    array-read-is-zero-3
-    array-read-is-zero-4
-    is-zero-requires-2
+    (λ c. search needs)
+    (λ c. search needs)
+    (λ c κs. search needs)
     returns-3
     returns-4
-    array-read-is-zero-5
-    array-read-is-zero-6
-    is-zero-requires-3
+    (λ c. search needs)
+    (λ c. search needs)
+    (λ c κs. search needs)
     returns-5)

@@ -24,15 +24,9 @@ returns-2 : tie.Need-returns-2
 unfolding rankBarred
 returns-2 c = rw (div-eq-of-lt (short c))
 
-sub-result : tie.Need-sub-result
-sub-result c = search needs
-
-shr-result : tie.Need-shr-result
-shr-result c = search needs
-
 returns-3 : tie.Need-returns-3
 unfolding rankBarred
 returns-3 c = search needs
 
 pub rank-barred-spec : {M : Type 1} → statement M
-rank-barred-spec = tie.close (tie.spec returns returns-2 sub-result shr-result returns-3)
+rank-barred-spec = tie.close (tie.spec returns returns-2 (λ c. search needs) (λ c. search needs) returns-3)

@@ -24,24 +24,12 @@ past-first c =
 returns : tie.Need-returns
 returns c = sym (none-past _ _ _ _ 0 _ (le-of-eq (c .if1 .taken)))
 
-array-read-is-zero : tie.Need-array-read-is-zero
-array-read-is-zero c = search needs
-
-array-read-is-zero-2 : tie.Need-array-read-is-zero-2
-array-read-is-zero-2 c = search needs
-
-is-zero-requires : tie.Need-is-zero-requires
-is-zero-requires c κs = search needs
-
 returns-2 : tie.Need-returns-2
 returns-2 c =
     rw (from-first _ _ _ _ _ (one (c .before .before)), sym (c .before .is-zero .ensures) ∙ c .if2 .taken)
 
 returns-3 : tie.Need-returns-3
 returns-3 c = sym (past-first (c .before) ∙ none-past _ _ _ _ 1 _ (le-of-eq (c .if3 .taken)))
-
-later-zero-requires : tie.Need-later-zero-requires
-later-zero-requires c κs = search needs
 
 returns-4 : tie.Need-returns-4
 returns-4 c = c .later-zero .ensures ∙ sym (past-first (c .before .before))
@@ -51,10 +39,10 @@ some-zero-spec =
     tie.close
     (tie.spec
     returns
-    array-read-is-zero
-    array-read-is-zero-2
-    is-zero-requires
+    (λ c. search needs)
+    (λ c. search needs)
+    (λ c κs. search needs)
     returns-2
     returns-3
-    later-zero-requires
+    (λ c κs. search needs)
     returns-4)

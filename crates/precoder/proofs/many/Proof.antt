@@ -4,21 +4,6 @@ use borrow.Author.Needs.{needs}
 use Rattle.precoder.proofs.many.Statement.{statement}
 use Rattle.precoder.proofs.many.Tie as tie
 
-slice-aggregate-matrix : tie.Need-slice-aggregate-matrix
-slice-aggregate-matrix c = search needs
-
-matrix-requires : tie.Need-matrix-requires
-matrix-requires c κs = search needs
-
-slice-aggregate-copy : tie.Need-slice-aggregate-copy
-slice-aggregate-copy c = search needs
-
-copy-requires : tie.Need-copy-requires
-copy-requires c κs = search needs
-
-same-length : tie.Need-same-length
-same-length c = search needs
-
 returns : tie.Need-returns
 returns c =
     let m = c .before .before .before .before .before .before in
@@ -29,9 +14,9 @@ pub many-spec : {M : Type 1} → statement M
 many-spec =
     tie.close
     (tie.spec
-    slice-aggregate-matrix
-    matrix-requires
-    slice-aggregate-copy
-    copy-requires
-    same-length
+    (λ c. search needs)
+    (λ c κs. search needs)
+    (λ c. search needs)
+    (λ c κs. search needs)
+    (λ c. search needs)
     returns)

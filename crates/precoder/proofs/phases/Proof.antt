@@ -6,14 +6,8 @@ use borrow.Author.Needs.{needs}
 use Rattle.precoder.proofs.phases.Statement.{statement}
 use Rattle.precoder.proofs.phases.Tie as tie
 
-judge-requires : tie.Need-judge-requires
-judge-requires c κs = search needs
-
 returns : tie.Need-returns
 returns c = refused-answers _ _ _ _ (c .before .before .before .judge .ensures) _ _ (c .if1 .taken)
-
-cast-n : tie.Need-cast-n
-cast-n c = search needs
 
 few-requires : tie.Need-few-requires
 few-requires c κs =
@@ -24,9 +18,6 @@ few-requires c κs =
       scale-is _ _ _ _ j z,
       fits _ _ _ _ j z,
     )
-
-same-length : tie.Need-same-length
-same-length c = search needs
 
 returns-2 : tie.Need-returns-2
 returns-2 c =
@@ -40,9 +31,6 @@ many-requires c κs =
     let z = e .if1 .left in
     (drawable-always _ _ _ _ j z, scale-is _ _ _ _ j z, fits _ _ _ _ j z)
 
-same-length-2 : tie.Need-same-length-2
-same-length-2 c = search needs
-
 returns-3 : tie.Need-returns-3
 returns-3 c =
     let e = c .before .before .before .before .before .before .before in
@@ -52,12 +40,12 @@ pub phases-spec : {M : Type 1} → statement M
 phases-spec =
     tie.close
     (tie.spec
-    judge-requires
+    (λ c κs. search needs)
     returns
-    cast-n
+    (λ c. search needs)
     few-requires
-    same-length
+    (λ c. search needs)
     returns-2
     many-requires
-    same-length-2
+    (λ c. search needs)
     returns-3)

@@ -6,14 +6,8 @@ use borrow.Author.Needs.{needs}
 use Rattle.precoder.proofs.weights.Statement.{statement}
 use Rattle.precoder.proofs.weights.Tie as tie
 
-judge-requires : tie.Need-judge-requires
-judge-requires c κs = search needs
-
 returns : tie.Need-returns
 returns c = refused-answers _ _ _ _ (c .before .before .before .judge .ensures) _ _ (c .if1 .taken)
-
-cast-entries : tie.Need-cast-entries
-cast-entries c = search needs
 
 rem-if2 : tie.Need-rem-if2
 rem-if2 c =
@@ -28,9 +22,6 @@ by-coarse-table-requires c κs =
     let d = c .before .if2 .taken in
     (drawable-coarse _ _ _ _ j z d, scale-is _ _ _ _ j z, omega (arith, fits _ _ _ _ j z), spaced _ _ _ _ j z d)
 
-same-length : tie.Need-same-length
-same-length c = search needs
-
 returns-2 : tie.Need-returns-2
 returns-2 c =
     let e = c .before .before .before .before .before .before .before in
@@ -43,9 +34,6 @@ by-table-requires c κs =
     let z = e .if1 .left in
     (drawable-always _ _ _ _ j z, scale-is _ _ _ _ j z, omega (arith, fits _ _ _ _ j z))
 
-same-length-2 : tie.Need-same-length-2
-same-length-2 c = search needs
-
 returns-3 : tie.Need-returns-3
 returns-3 c =
     let e = c .before .before .before .before .before .before .before in
@@ -55,13 +43,13 @@ pub weights-spec : {M : Type 1} → statement M
 weights-spec =
     tie.close
     (tie.spec
-    judge-requires
+    (λ c κs. search needs)
     returns
-    cast-entries
+    (λ c. search needs)
     rem-if2
     by-coarse-table-requires
-    same-length
+    (λ c. search needs)
     returns-2
     by-table-requires
-    same-length-2
+    (λ c. search needs)
     returns-3)

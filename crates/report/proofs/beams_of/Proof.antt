@@ -25,15 +25,6 @@ sizes c = ap (λ (w : Ranges). w .sizes) (c .ranges-of .ensures)
 passed : (c : tie.Else1) → first (rule (c .before .before .before .args .r)) ownOrder ≡ 0
 passed c = sym (c .before .refusal .ensures) ∙ c .if1 .left
 
-ranges-of-requires : tie.Need-ranges-of-requires
-ranges-of-requires c κs = search needs
-
-refusal-requires : tie.Need-refusal-requires
-refusal-requires c κs = search needs
-
-refused-requires : tie.Need-refused-requires
-refused-requires c κs = search needs
-
 returns : tie.Need-returns
 unfolding beamsOf
 returns c =
@@ -54,9 +45,9 @@ pub beams-of-spec : {M : Type 1} → statement M
 beams-of-spec =
     tie.close
     (tie.spec
-    ranges-of-requires
-    refusal-requires
-    refused-requires
+    (λ c κs. search needs)
+    (λ c κs. search needs)
+    (λ c κs. search needs)
     returns
     choose-requires
     returns-2)

@@ -35,15 +35,6 @@ returns c = is-false _ (λ e. omega (arith, known _ _ e .n1-few))
 returns-2 : tie.Need-returns-2
 returns-2 c = is-false _ (λ e. omega (arith, known _ _ e .n2-few))
 
-mul-row : tie.Need-mul-row
-mul-row c = search needs
-
-array-read-row : tie.Need-array-read-row
-array-read-row c = search needs
-
-shr-result : tie.Need-shr-result
-shr-result c = search needs
-
 returns-3 : tie.Need-returns-3
 returns-3 c =
     let a = c .before .before .args in
@@ -51,4 +42,4 @@ returns-3 c =
 
 pub is-setting-spec : {M : Type 1} → statement M
 is-setting-spec =
-    tie.close (tie.spec returns returns-2 mul-row array-read-row shr-result returns-3)
+    tie.close (tie.spec returns returns-2 (λ c. search needs) (λ c. search needs) (λ c. search needs) returns-3)

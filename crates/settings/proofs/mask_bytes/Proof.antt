@@ -7,9 +7,6 @@ use Rattle.settings.specs.Settings.{isSetting}
 use Rattle.settings.proofs.mask_bytes.Statement.{statement}
 use Rattle.settings.proofs.mask_bytes.Tie as tie
 
-sizes-of-requires : tie.Need-sizes-of-requires
-sizes-of-requires c κs = search needs
-
 returns : tie.Need-returns
 returns c =
     let a = c .before .args in
@@ -17,4 +14,4 @@ returns c =
     ∙ cond-each (λ (s : Sizes). s .bytes) (isSetting (a .n1) (a .n2)) refl refl
 
 pub mask-bytes-spec : {M : Type 1} → statement M
-mask-bytes-spec = tie.close (tie.spec sizes-of-requires returns)
+mask-bytes-spec = tie.close (tie.spec (λ c κs. search needs) returns)

@@ -23,12 +23,6 @@ tested c =
 ranked : (c : tie.Else1) → let a = c .before .before .before .args in isRanked (a .n1) (a .n2) (a .mode) (a .v) ≡ true
 ranked c = tested (c .before) ∙ not-false _ (c .if1 .left)
 
-sizes-of-requires : tie.Need-sizes-of-requires
-sizes-of-requires c κs = search needs
-
-is-ranked-requires : tie.Need-is-ranked-requires
-is-ranked-requires c κs = search needs
-
 returns : tie.Need-returns
 returns c =
     let z = c .before .before in
@@ -52,9 +46,6 @@ three-or-four-requires c κs =
 returns-3 : tie.Need-returns-3
 returns-3 c = c .three-or-four .ensures
 
-plain-requires : tie.Need-plain-requires
-plain-requires c κs = search needs
-
 returns-4 : tie.Need-returns-4
 returns-4 c =
     let l = c .before in
@@ -76,14 +67,14 @@ pub ranges-of-spec : {M : Type 1} → statement M
 ranges-of-spec =
     tie.close
     (tie.spec
-    sizes-of-requires
-    is-ranked-requires
+    (λ c κs. search needs)
+    (λ c κs. search needs)
     returns
     one-or-two-requires
     returns-2
     three-or-four-requires
     returns-3
-    plain-requires
+    (λ c κs. search needs)
     returns-4
     seven-or-eight-requires
     returns-5)

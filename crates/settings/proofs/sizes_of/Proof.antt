@@ -23,23 +23,11 @@ set c = sym (c .before .is-setting .ensures) ∙ not-false _ (c .if1 .left)
 four : (c : tie.Else2) → let n1 = c .before .before .before .args .n1 in across n1 ≡ n1 * 4
 four c = rw (ne-eqb _ 1 (c .if2 .left))
 
-is-setting-requires : tie.Need-is-setting-requires
-is-setting-requires c κs = search needs
-
 returns : tie.Need-returns
 returns c = rw (sym (c .before .is-setting .ensures) ∙ not-true _ (c .if1 .taken))
 
 returns-2 : tie.Need-returns-2
 returns-2 c = two-ports _ _ (set (c .before)) (c .if2 .taken)
-
-mul-ports : tie.Need-mul-ports
-mul-ports c = omega (arith, known _ _ (set (c .before)) .antennas)
-
-mul-ports-2 : tie.Need-mul-ports-2
-mul-ports-2 c = omega (arith, known _ _ (set (c .before)) .antennas)
-
-mul-across : tie.Need-mul-across
-mul-across c = omega (arith, known _ _ (set (c .before)) .n1-few)
 
 beams-down-requires : tie.Need-beams-down-requires
 beams-down-requires c κs = known _ _ (set (c .before)) .n2-few
@@ -59,12 +47,12 @@ pub sizes-of-spec : {M : Type 1} → statement M
 sizes-of-spec =
     tie.close
     (tie.spec
-    is-setting-requires
+    (λ c κs. search needs)
     returns
     returns-2
-    mul-ports
-    mul-ports-2
-    mul-across
+    (λ c. omega (arith, known _ _ (set (c .before)) .antennas))
+    (λ c. omega (arith, known _ _ (set (c .before)) .antennas))
+    (λ c. omega (arith, known _ _ (set (c .before)) .n1-few))
     beams-down-requires
     mul-bytes
     returns-3)

@@ -5,18 +5,6 @@ use borrow.Author.Needs.{needs}
 use Rattle.single.proofs.drawing_of.Statement.{statement}
 use Rattle.single.proofs.drawing_of.Tie as tie
 
-quarters-requires : tie.Need-quarters-requires
-quarters-requires c κs = search needs
-
-steps-of-requires : tie.Need-steps-of-requires
-steps-of-requires c κs = search needs
-
-eighths-requires : tie.Need-eighths-requires
-eighths-requires c κs = search needs
-
-add-requires : tie.Need-add-requires
-add-requires c κs = search needs
-
 returns : tie.Need-returns
 returns c =
     let s = c .before .before .before .before .before .before in
@@ -39,10 +27,10 @@ pub drawing-of-spec : {M : Type 1} → statement M
 drawing-of-spec =
     tie.close
     (tie.spec
-    quarters-requires
-    steps-of-requires
-    eighths-requires
-    add-requires
+    (λ c κs. search needs)
+    (λ c κs. search needs)
+    (λ c κs. search needs)
+    (λ c κs. search needs)
     returns
     codes-of-requires
     returns-2)

@@ -18,18 +18,6 @@ number c =
     c .admit .ensures
     ∙ admitted-refusal single (a .r) (now (a .mask)) (a .ranks) (a .room) indices _ (c .before .needs-of .ensures)
 
-beams-of-requires : tie.Need-beams-of-requires
-beams-of-requires c κs = search needs
-
-needs-of-requires : tie.Need-needs-of-requires
-needs-of-requires c κs = search needs
-
-admit-requires : tie.Need-admit-requires
-admit-requires c κs = search needs
-
-refuse-requires : tie.Need-refuse-requires
-refuse-requires c κs = search needs
-
 returns : tie.Need-returns
 returns c =
     c .refuse .ensures ∙ refused-judged _ _ (c .before .before .admit .result) _ (c .before .if1 .taken) (number (c .before .before))
@@ -53,10 +41,10 @@ pub judge-spec : {M : Type 1} → statement M
 judge-spec =
     tie.close
     (tie.spec
-    beams-of-requires
-    needs-of-requires
-    admit-requires
-    refuse-requires
+    (λ c κs. search needs)
+    (λ c κs. search needs)
+    (λ c κs. search needs)
+    (λ c κs. search needs)
     returns
     drawing-of-requires
     returns-2)

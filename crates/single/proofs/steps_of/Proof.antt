@@ -5,24 +5,6 @@ use borrow.Author.Needs.{needs}
 use Rattle.single.proofs.steps_of.Statement.{statement}
 use Rattle.single.proofs.steps_of.Tie as tie
 
-cast-px : tie.Need-cast-px
-cast-px c = search needs
-
-div-px : tie.Need-div-px
-div-px c = across-some _ (c .before .pre .0) (c .before .pre .1)
-
-cast-py : tie.Need-cast-py
-cast-py c = search needs
-
-div-py : tie.Need-div-py
-div-py c = down-some _ (c .before .before .pre .0) (c .before .before .pre .1)
-
-array-read-step-of : tie.Need-array-read-step-of
-array-read-step-of c = search needs
-
-array-read-step-of-2 : tie.Need-array-read-step-of-2
-array-read-step-of-2 c = search needs
-
 step-of-requires : tie.Need-step-of-requires
 step-of-requires c κs = let s = c .before .before .before .before in small _ (s .pre .0) (s .pre .1) 0 (omega arith)
 
@@ -33,29 +15,11 @@ returns c =
     let e = s .pre .1 in
     one-step _ h e (c .if1 .taken) (step-is _ h e 0 (omega arith) (c .before .before .step-of .ensures))
 
-array-read-step-of-3 : tie.Need-array-read-step-of-3
-array-read-step-of-3 c = search needs
-
-array-read-step-of-4 : tie.Need-array-read-step-of-4
-array-read-step-of-4 c = search needs
-
 step-of-requires-2 : tie.Need-step-of-requires-2
 step-of-requires-2 c κs = let s = c .before .before .before .before .before .before .before in small _ (s .pre .0) (s .pre .1) 1 (omega arith)
 
-array-read-step-of-5 : tie.Need-array-read-step-of-5
-array-read-step-of-5 c = search needs
-
-array-read-step-of-6 : tie.Need-array-read-step-of-6
-array-read-step-of-6 c = search needs
-
 step-of-requires-3 : tie.Need-step-of-requires-3
 step-of-requires-3 c κs = let s = c .before .before .before .before .before .before .before .before in small _ (s .pre .0) (s .pre .1) 2 (omega arith)
-
-array-read-step-of-7 : tie.Need-array-read-step-of-7
-array-read-step-of-7 c = search needs
-
-array-read-step-of-8 : tie.Need-array-read-step-of-8
-array-read-step-of-8 c = search needs
 
 step-of-requires-4 : tie.Need-step-of-requires-4
 step-of-requires-4 c κs = let s = c .before .before .before .before .before .before .before .before .before in small _ (s .pre .0) (s .pre .1) 3 (omega arith)
@@ -74,21 +38,21 @@ pub steps-of-spec : {M : Type 1} → statement M
 steps-of-spec =
     tie.close
     (tie.spec
-    cast-px
-    div-px
-    cast-py
-    div-py
-    array-read-step-of
-    array-read-step-of-2
+    (λ c. search needs)
+    (λ c. across-some _ (c .before .pre .0) (c .before .pre .1))
+    (λ c. search needs)
+    (λ c. down-some _ (c .before .before .pre .0) (c .before .before .pre .1))
+    (λ c. search needs)
+    (λ c. search needs)
     step-of-requires
     returns
-    array-read-step-of-3
-    array-read-step-of-4
+    (λ c. search needs)
+    (λ c. search needs)
     step-of-requires-2
-    array-read-step-of-5
-    array-read-step-of-6
+    (λ c. search needs)
+    (λ c. search needs)
     step-of-requires-3
-    array-read-step-of-7
-    array-read-step-of-8
+    (λ c. search needs)
+    (λ c. search needs)
     step-of-requires-4
     returns-2)

@@ -5,9 +5,6 @@ use Rattle.single.specs.Masks.{twoPortBit}
 use Rattle.single.proofs.two_port_bit.Statement.{statement}
 use Rattle.single.proofs.two_port_bit.Tie as tie
 
-add-result : tie.Need-add-result
-add-result c = search needs
-
 returns : tie.Need-returns
 unfolding twoPortBit
 returns c = rw (eq-eqb _ 1 (c .if1 .taken))
@@ -17,4 +14,4 @@ unfolding twoPortBit
 returns-2 c = rw (ne-eqb _ 1 (c .before .if1 .left))
 
 pub two-port-bit-spec : {M : Type 1} → statement M
-two-port-bit-spec = tie.close (tie.spec add-result returns returns-2)
+two-port-bit-spec = tie.close (tie.spec (λ c. search needs) returns returns-2)

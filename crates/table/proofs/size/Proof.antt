@@ -60,17 +60,8 @@ kept {n = n} h = subst (λ (x : ℤ). Holds x n) (sym (toZ-ofZ {w = w64} (h .sig
 cast-wide : tie.Need-cast-wide
 cast-wide c = subst (SFits w64) (sym (toZ-ofZ {w = w16} (c .fits .n))) (sfits-widen {w = w16} {w′ = w64} tt (c .fits .n))
 
-sub-result : tie.Need-sub-result
-sub-result c = below-zero (c .before .fits .n) (c .if1 .taken) .signed
-
-cast-result : tie.Need-cast-result
-cast-result c = let h = kept (below-zero (c .before .fits .n) (c .if1 .taken)) in (h .positive, h .unsigned)
-
 returns : tie.Need-returns
 returns c = kept (below-zero (c .before .fits .n) (c .if1 .taken)) .same
-
-cast-result-2 : tie.Need-cast-result-2
-cast-result-2 c = let h = from-zero (c .before .fits .n) (c .if1 .left) in (h .positive, h .unsigned)
 
 returns-2 : tie.Need-returns-2
 returns-2 c = from-zero (c .before .fits .n) (c .if1 .left) .same
@@ -78,4 +69,4 @@ returns-2 c = from-zero (c .before .fits .n) (c .if1 .left) .same
 pub size-spec : {M : Type 1} → statement M
 size-spec =
     tie.close
-    (tie.spec cast-wide sub-result cast-result returns cast-result-2 returns-2)
+    (tie.spec cast-wide (λ c. below-zero (c .before .fits .n) (c .if1 .taken) .signed) (λ c. let h = kept (below-zero (c .before .fits .n) (c .if1 .taken)) in (h .positive, h .unsigned)) returns (λ c. let h = from-zero (c .before .fits .n) (c .if1 .left) in (h .positive, h .unsigned)) returns-2)

@@ -47,14 +47,8 @@ outcome c e =
     let m = c .before .before .before .before in
     rw (may (m .before .before)) (writes-composed (m .compose .ensures) (c .copy .ensures) e)
 
-same-length : tie.Need-same-length
-same-length c = c .before .before .before .copy .kept .1 .1 .0
-
 returns-2 : tie.Need-returns-2
 returns-2 c = outcome (c .before .before .before) (rw (c .if2 .taken))
-
-same-length-2 : tie.Need-same-length-2
-same-length-2 c = c .before .before .before .copy .kept .1 .1 .0
 
 returns-3 : tie.Need-returns-3
 returns-3 c = outcome (c .before .before .before) (rw (c .if2 .left))
@@ -69,7 +63,7 @@ answer-spec =
     compose-requires
     slice-aggregate-copy
     copy-requires
-    same-length
+    (λ c. c .before .before .before .copy .kept .1 .1 .0)
     returns-2
-    same-length-2
+    (λ c. c .before .before .before .copy .kept .1 .1 .0)
     returns-3)

@@ -30,20 +30,11 @@ slice-aggregate-opened c = refl
 opened-requires : tie.Need-opened-requires
 opened-requires c κs = omega (arith, c .before .before .before .before .before .pre)
 
-same-length : tie.Need-same-length
-same-length c = adds-length (refused (c .before .before))
-
 returns : tie.Need-returns
 returns c = refused (c .before .before)
 
 accepted-requires : tie.Need-accepted-requires
 accepted-requires c κs = omega (arith, c .before .before .before .before .pre)
-
-cast-lines : tie.Need-cast-lines
-cast-lines c = omega arith
-
-cast-lines-2 : tie.Need-cast-lines-2
-cast-lines-2 c = omega arith
 
 abbrev start : tie.After-accepted → tie.Start
 start c = c .before .before .before .before .before
@@ -64,9 +55,6 @@ whole c =
     rw (text-accepted (start e .args .a) _ (e .before .before .if1 .left))
     (adds-then (e .accepted .ensures) (c .lines .ensures))
 
-same-length-2 : tie.Need-same-length-2
-same-length-2 c = adds-length (whole (c .before .before))
-
 returns-2 : tie.Need-returns-2
 returns-2 c = whole (c .before .before)
 
@@ -76,11 +64,11 @@ compose-spec =
     (tie.spec
     slice-aggregate-opened
     opened-requires
-    same-length
+    (λ c. adds-length (refused (c .before .before)))
     returns
     accepted-requires
-    cast-lines
-    cast-lines-2
+    (λ c. omega arith)
+    (λ c. omega arith)
     lines-requires
-    same-length-2
+    (λ c. adds-length (whole (c .before .before)))
     returns-2)

@@ -32,12 +32,6 @@ small c =
     let e = c .before .before .before in
     mul-le-mul (e .if3 .left) (e .before .before .if2 .left)
 
-mul-result : tie.Need-mul-result
-mul-result c = omega (arith, small c)
-
-cast-result : tie.Need-cast-result
-cast-result c = omega (arith, small c)
-
 returns-5 : tie.Need-returns-5
 unfolding printable
 returns-5 c =
@@ -51,4 +45,4 @@ returns-5 c =
 
 pub is-printable-spec : {M : Type 1} → statement M
 is-printable-spec =
-    tie.close (tie.spec returns returns-2 returns-3 returns-4 mul-result cast-result returns-5)
+    tie.close (tie.spec returns returns-2 returns-3 returns-4 (λ c. omega (arith, small c)) (λ c. omega (arith, small c)) returns-5)

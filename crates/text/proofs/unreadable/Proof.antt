@@ -17,9 +17,6 @@ slice-aggregate-copy c = refl
 copy-requires : tie.Need-copy-requires
 copy-requires c κs = tt
 
-same-length : tie.Need-same-length
-same-length c = c .before .before .before .copy .kept .1 .1 .0
-
 -- what is given where the copy is made, and where it is not
 outcome : {k : ℕ} (c : tie.After-copy) → k ≡ (c .copy .result ⇒ 11 ∣ 0)
     → Writes true unreadableText (c .before .before .before .before .args .out .now) k (c .copy .last .1 .1 .0)
@@ -29,13 +26,10 @@ outcome c =
 returns : tie.Need-returns
 returns c = outcome (c .before .before .before) (rw (c .if1 .taken))
 
-same-length-2 : tie.Need-same-length-2
-same-length-2 c = c .before .before .before .copy .kept .1 .1 .0
-
 returns-2 : tie.Need-returns-2
 returns-2 c = outcome (c .before .before .before) (rw (c .if1 .left))
 
 pub unreadable-spec : {M : Type 1} → statement M
 unreadable-spec =
     tie.close
-    (tie.spec slice-aggregate-copy copy-requires same-length returns same-length-2 returns-2)
+    (tie.spec slice-aggregate-copy copy-requires (λ c. c .before .before .before .copy .kept .1 .1 .0) returns (λ c. c .before .before .before .copy .kept .1 .1 .0) returns-2)

@@ -44,12 +44,6 @@ returns-4 c =
     let second = third .before .before in
     rw (few (second .before .before), pairs second, le-leb _ _ (some third), lt-leb _ _ (c .if4 .taken))
 
-cast-h : tie.Need-cast-h
-cast-h c = fits-widen tt (c .struct-known5 .given .1 .1 .0)
-
-cast-h-2 : tie.Need-cast-h-2
-cast-h-2 c = fits-widen tt (c .struct-known6 .given .1 .1 .1 .0)
-
 mul-h : tie.Need-mul-h
 mul-h c =
     let narrow = c .before .before .if4 .left in
@@ -68,12 +62,6 @@ returns-5 c =
       le-leb _ _ (fourth .if4 .left),
       lt-leb _ _ (c .if5 .taken),
     )
-
-cast-end : tie.Need-cast-end
-cast-end c = fits-widen tt (c .struct-known7 .given .0)
-
-cast-end-2 : tie.Need-cast-end-2
-cast-end-2 c = fits-widen tt (c .struct-known8 .given .1 .0)
 
 mul-end : tie.Need-mul-end
 mul-end c =
@@ -118,12 +106,12 @@ is-drawable-spec =
     returns-2
     returns-3
     returns-4
-    cast-h
-    cast-h-2
+    (λ c. fits-widen tt (c .struct-known5 .given .1 .1 .0))
+    (λ c. fits-widen tt (c .struct-known6 .given .1 .1 .1 .0))
     mul-h
     returns-5
-    cast-end
-    cast-end-2
+    (λ c. fits-widen tt (c .struct-known7 .given .0))
+    (λ c. fits-widen tt (c .struct-known8 .given .1 .0))
     mul-end
     mul-end-2
     mul-end-3

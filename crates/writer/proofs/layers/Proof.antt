@@ -59,18 +59,6 @@ room t =
 few : (s : tie.Start Inv-loop μ-loop) → s .args .s .v ≤ 16
 few s = le-trans (sizes s .few) (lit≤ tt)
 
-cast-n : tie.Need-cast-n Inv-loop μ-loop
-cast-n c = small-64 _ (le-trans (sizes (c .before .before) .pairs) (lit≤ tt))
-
-cast-w : tie.Need-cast-w Inv-loop μ-loop
-cast-w c = small-64 _ (le-trans (sizes (c .before .before .before) .narrow) (lit≤ tt))
-
-cast-h : tie.Need-cast-h Inv-loop μ-loop
-cast-h c = fits-widen tt (c .struct-known3 .given .1 .1 .0)
-
-mul-h : tie.Need-mul-h Inv-loop μ-loop
-mul-h c = small-64 _ (le-trans (sizes (c .before .before .before .before) .block) (lit≤ tt))
-
 mul-height : tie.Need-mul-height Inv-loop μ-loop
 mul-height c =
     let z = sizes (c .before .before .before .before) in
@@ -84,24 +72,6 @@ mul-height-2 c =
 loop-holds : tie.Need-loop-holds Inv-loop μ-loop
 unfolding drawn
 loop-holds c = (zero-le, none-first _, laid-none _ 0)
-
-cast-code : tie.Need-cast-code Inv-loop μ-loop
-cast-code c = place-fits _ _ (few (start-of (c .before))) (c .loop-test .taken)
-
-mul-code : tie.Need-mul-code Inv-loop μ-loop
-mul-code c = twice-fits _ _ (few (start-of (c .before))) (c .loop-test .taken)
-
-array-read-code : tie.Need-array-read-code Inv-loop μ-loop
-array-read-code c = le-trans (c .loop-test .taken) (sizes (start-of (c .before)) .few)
-
-cast-place : tie.Need-cast-place Inv-loop μ-loop
-cast-place c = code-fits _
-
-mul-step : tie.Need-mul-step Inv-loop μ-loop
-mul-step c = code-fits-4 _
-
-array-read-step : tie.Need-array-read-step Inv-loop μ-loop
-array-read-step c = mod-lt _ (lit< tt)
 
 column-requires : tie.Need-column-requires Inv-loop μ-loop
 column-requires c κs =
@@ -126,9 +96,6 @@ add-j c =
     let t = c .before .before .before .before in
     next-fits-32 _ _ (few (start-of (t .before))) (t .loop-test .taken)
 
-loop-less : tie.Need-loop-less Inv-loop μ-loop
-loop-less c = falls _ _ (c .before .before .before .before .loop-test .taken)
-
 loop-again : tie.Need-loop-again Inv-loop μ-loop
 unfolding columnAt beamAt
 loop-again c =
@@ -138,9 +105,6 @@ loop-again c =
       part-end _ (l .j) (l .at) (l .inv .1),
       laid-layer _ (l .j) (l .inv .2) (c .before .before .column .ensures),
     )
-
-same-length : tie.Need-same-length Inv-loop μ-loop
-same-length c = c .before .loop .inv .2 .long
 
 returns : tie.Need-returns Inv-loop μ-loop
 returns c =
@@ -158,23 +122,23 @@ layers-spec =
     (tie.spec
     Inv-loop
     μ-loop
-    cast-n
-    cast-w
-    cast-h
-    mul-h
+    (λ c. small-64 _ (le-trans (sizes (c .before .before) .pairs) (lit≤ tt)))
+    (λ c. small-64 _ (le-trans (sizes (c .before .before .before) .narrow) (lit≤ tt)))
+    (λ c. fits-widen tt (c .struct-known3 .given .1 .1 .0))
+    (λ c. small-64 _ (le-trans (sizes (c .before .before .before .before) .block) (lit≤ tt)))
     mul-height
     mul-height-2
     loop-holds
-    cast-code
-    mul-code
-    array-read-code
-    cast-place
-    mul-step
-    array-read-step
+    (λ c. place-fits _ _ (few (start-of (c .before))) (c .loop-test .taken))
+    (λ c. twice-fits _ _ (few (start-of (c .before))) (c .loop-test .taken))
+    (λ c. le-trans (c .loop-test .taken) (sizes (start-of (c .before)) .few))
+    (λ c. code-fits _)
+    (λ c. code-fits-4 _)
+    (λ c. mod-lt _ (lit< tt))
     column-requires
     add-at
     add-j
-    loop-less
+    (λ c. falls _ _ (c .before .before .before .before .loop-test .taken))
     loop-again
-    same-length
+    (λ c. c .before .loop .inv .2 .long)
     returns)

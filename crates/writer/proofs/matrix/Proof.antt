@@ -32,9 +32,6 @@ is-drawable-requires c κs = tt
 returns : tie.Need-returns
 returns c = record { fits = sym (not-true _ (c .if1 .taken)) ∙ c .before .is-drawable .ensures; stands = refl }
 
-mul-end : tie.Need-mul-end
-mul-end c = small-32 _ (le-trans (sizes (c .before) .block) (lit≤ tt))
-
 mul-end-2 : tie.Need-mul-end-2
 mul-end-2 c =
     let z = sizes (c .before .before) in
@@ -66,9 +63,6 @@ put-requires c κs =
     let l = c .before .before .before in
     le-trans (sizes (passed-at (l .before .before)) .fits) (le-of-eq (sym (l .layers .kept .1 .0)))
 
-same-length : tie.Need-same-length
-same-length c = c .before .before .put .kept .0 ∙ c .before .before .before .before .before .before .layers .kept .1 .0
-
 returns-2 : tie.Need-returns-2
 returns-2 c =
     let put = c .before .before .put in
@@ -91,7 +85,7 @@ matrix-spec =
     (tie.spec
     is-drawable-requires
     returns
-    mul-end
+    (λ c. small-32 _ (le-trans (sizes (c .before) .block) (lit≤ tt)))
     mul-end-2
     mul-end-3
     mul-end-4
@@ -99,5 +93,5 @@ matrix-spec =
     places-requires
     layers-requires
     put-requires
-    same-length
+    (λ c. c .before .before .put .kept .0 ∙ c .before .before .before .before .before .before .layers .kept .1 .0)
     returns-2)

@@ -52,9 +52,6 @@ shared-slice-read-result c =
       length-drop (s .args .from) line,
     )
 
-ending-requires : tie.Need-ending-requires
-ending-requires c κs = search needs
-
 returns-4 : tie.Need-returns-4
 unfolding isEnded
 returns-4 c =
@@ -68,4 +65,4 @@ returns-4 c =
 pub ends-spec : {M : Type 1} → statement M
 ends-spec =
     tie.close
-    (tie.spec returns returns-2 returns-3 shared-slice-read-result ending-requires returns-4)
+    (tie.spec returns returns-2 returns-3 shared-slice-read-result (λ c κs. search needs) returns-4)

@@ -31,12 +31,6 @@ returns c =
     let l = c .before .before .loop in
     leads _ _ _ (lead-past (l .left) _ (l .end) (omega arith)) (l .inv .1) (l .inv .2)
 
-shared-slice-read-b : tie.Need-shared-slice-read-b Inv-loop μ-loop
-shared-slice-read-b c = omega arith
-
-is-digit-requires : tie.Need-is-digit-requires Inv-loop μ-loop
-is-digit-requires c κs = search needs
-
 returns-2 : tie.Need-returns-2 Inv-loop μ-loop
 returns-2 c =
     let l = c .before .before .before .before .before .loop in
@@ -87,27 +81,6 @@ small c =
       value-small (drop (a .from) (a .line .now)),
     )
 
-mul-value : tie.Need-mul-value Inv-loop μ-loop
-mul-value c = omega (arith, small c)
-
-sub-value : tie.Need-sub-value Inv-loop μ-loop
-sub-value c = digit-above _ (digit c)
-
-cast-value : tie.Need-cast-value Inv-loop μ-loop
-cast-value c = omega (arith, small c)
-
-add-value : tie.Need-add-value Inv-loop μ-loop
-add-value c = omega (arith, small c)
-
-add-end : tie.Need-add-end Inv-loop μ-loop
-add-end c = omega arith
-
-sub-left : tie.Need-sub-left Inv-loop μ-loop
-sub-left c = omega arith
-
-loop-less : tie.Need-loop-less Inv-loop μ-loop
-loop-less c = omega arith
-
 loop-again : tie.Need-loop-again Inv-loop μ-loop
 loop-again c = (omega arith, completed c, omega (arith, ap length (more c)))
 
@@ -124,15 +97,15 @@ leading-spec =
     μ-loop
     loop-holds
     returns
-    shared-slice-read-b
-    is-digit-requires
+    (λ c. omega arith)
+    (λ c κs. search needs)
     returns-2
-    mul-value
-    sub-value
-    cast-value
-    add-value
-    add-end
-    sub-left
-    loop-less
+    (λ c. omega (arith, small c))
+    (λ c. digit-above _ (digit c))
+    (λ c. omega (arith, small c))
+    (λ c. omega (arith, small c))
+    (λ c. omega arith)
+    (λ c. omega arith)
+    (λ c. omega arith)
     loop-again
     returns-3)

@@ -7,21 +7,6 @@ use borrow.Author.Needs.{needs}
 use Rattle.precoder.proofs.expand.by_coarse_table.Statement.{statement}
 use Rattle.precoder.proofs.expand.by_coarse_table.Tie as tie
 
-slice-aggregate-matrix : tie.Need-slice-aggregate-matrix
-slice-aggregate-matrix c = search needs
-
-matrix-requires : tie.Need-matrix-requires
-matrix-requires c κs = search needs
-
-coarse-requires : tie.Need-coarse-requires
-coarse-requires c κs = search needs
-
-slice-aggregate-expand : tie.Need-slice-aggregate-expand
-slice-aggregate-expand c = search needs
-
-slice-aggregate-expand-2 : tie.Need-slice-aggregate-expand-2
-slice-aggregate-expand-2 c = search needs
-
 expand-requires : tie.Need-expand-requires
 expand-requires c κs =
     let s = c .before .before .before .before .before .before .before in
@@ -32,9 +17,6 @@ expand-requires c κs =
       front-spaced (s .args .s) w (s .pre .1) (s .pre .0) (λ i h. s .pre .3 .each i (omega (arith, length-drawn (s .args .s) (s .args .s .v), s .pre .1))),
     )
 
-same-length : tie.Need-same-length
-same-length c = search needs
-
 returns : tie.Need-returns
 returns c =
     let s = c .before .before .before .before .before .before .before .before .before in
@@ -44,11 +26,11 @@ pub by-coarse-table-spec : {M : Type 1} → statement M
 by-coarse-table-spec =
     tie.close
     (tie.spec
-    slice-aggregate-matrix
-    matrix-requires
-    coarse-requires
-    slice-aggregate-expand
-    slice-aggregate-expand-2
+    (λ c. search needs)
+    (λ c κs. search needs)
+    (λ c κs. search needs)
+    (λ c. search needs)
+    (λ c. search needs)
     expand-requires
-    same-length
+    (λ c. search needs)
     returns)

@@ -8,21 +8,6 @@ use borrow.Author.Needs.{needs}
 use Rattle.precoder.proofs.expand.by_table.Statement.{statement}
 use Rattle.precoder.proofs.expand.by_table.Tie as tie
 
-slice-aggregate-matrix : tie.Need-slice-aggregate-matrix
-slice-aggregate-matrix c = search needs
-
-matrix-requires : tie.Need-matrix-requires
-matrix-requires c κs = search needs
-
-table-requires : tie.Need-table-requires
-table-requires c κs = search needs
-
-slice-aggregate-expand : tie.Need-slice-aggregate-expand
-slice-aggregate-expand c = search needs
-
-slice-aggregate-expand-2 : tie.Need-slice-aggregate-expand-2
-slice-aggregate-expand-2 c = search needs
-
 expand-requires : tie.Need-expand-requires
 expand-requires c κs =
     let s = c .before .before .before .before .before .before .before in
@@ -33,9 +18,6 @@ expand-requires c κs =
       front-spaced (s .args .s) w (s .pre .1) (s .pre .0) (λ i h. mod-one _),
     )
 
-same-length : tie.Need-same-length
-same-length c = search needs
-
 returns : tie.Need-returns
 returns c =
     let s = c .before .before .before .before .before .before .before .before .before in
@@ -45,11 +27,11 @@ pub by-table-spec : {M : Type 1} → statement M
 by-table-spec =
     tie.close
     (tie.spec
-    slice-aggregate-matrix
-    matrix-requires
-    table-requires
-    slice-aggregate-expand
-    slice-aggregate-expand-2
+    (λ c. search needs)
+    (λ c κs. search needs)
+    (λ c κs. search needs)
+    (λ c. search needs)
+    (λ c. search needs)
     expand-requires
-    same-length
+    (λ c. search needs)
     returns)

@@ -46,58 +46,16 @@ within c = (place-within (c .before .before .pre .0) _ (below c), div-le-self tu
 loop-holds : tie.Need-loop-holds Inv-loop μ-loop
 loop-holds c = (omega arith, refl, refl, refl)
 
-shared-slice-read-k : tie.Need-shared-slice-read-k Inv-loop μ-loop
-shared-slice-read-k c = omega arith
-
-cast-k : tie.Need-cast-k Inv-loop μ-loop
-cast-k c = omega (arith, below (c .before))
-
-div-k : tie.Need-div-k Inv-loop μ-loop
-div-k c = omega (arith, apart-some (c .before .before .before .pre .0))
-
-mul-k : tie.Need-mul-k Inv-loop μ-loop
-mul-k c = omega (arith, within (c .before))
-
-add-next : tie.Need-add-next Inv-loop μ-loop
-add-next c = omega (arith, within (c .before))
-
-mul-x : tie.Need-mul-x Inv-loop μ-loop
-mul-x c = omega (arith, within (c .before))
-
 shared-slice-copy-out-x : tie.Need-shared-slice-copy-out-x Inv-loop μ-loop
 shared-slice-copy-out-x c =
     omega (arith, within (c .before), length-stored (c .before .before .before .pre .0))
-
-mul-y : tie.Need-mul-y Inv-loop μ-loop
-mul-y c = omega (arith, within (c .before .before))
 
 shared-slice-copy-out-y : tie.Need-shared-slice-copy-out-y Inv-loop μ-loop
 shared-slice-copy-out-y c =
     omega (arith, within (c .before .before), length-stored (c .before .before .before .before .pre .0))
 
-mul-x-2 : tie.Need-mul-x-2 Inv-loop μ-loop
-mul-x-2 c = omega arith
-
-slice-set-from-x : tie.Need-slice-set-from-x Inv-loop μ-loop
-slice-set-from-x c = omega arith
-
-add-y : tie.Need-add-y Inv-loop μ-loop
-add-y c = omega arith
-
-mul-y-2 : tie.Need-mul-y-2 Inv-loop μ-loop
-mul-y-2 c = omega arith
-
 slice-set-from-y : tie.Need-slice-set-from-y Inv-loop μ-loop
 slice-set-from-y c = simp length-set (omega arith)
-
-add-at : tie.Need-add-at Inv-loop μ-loop
-add-at c = omega arith
-
-add-i : tie.Need-add-i Inv-loop μ-loop
-add-i c = omega arith
-
-loop-less : tie.Need-loop-less Inv-loop μ-loop
-loop-less c = omega arith
 
 -- what the code holds in a local is the number itself
 local : {z : ℤ} → mag z < 2 ^ hbits w16 → toZ w16 (ofZ w16 z) ≡ z
@@ -117,9 +75,6 @@ loop-again c =
       simp length-set (l .inv .3),
     )
 
-same-length : tie.Need-same-length Inv-loop μ-loop
-same-length c = c .before .loop .inv .3
-
 returns : tie.Need-returns Inv-loop μ-loop
 returns c =
     let l = c .before .loop in
@@ -133,23 +88,23 @@ expand-spec =
     Inv-loop
     μ-loop
     loop-holds
-    shared-slice-read-k
-    cast-k
-    div-k
-    mul-k
-    add-next
-    mul-x
+    (λ c. omega arith)
+    (λ c. omega (arith, below (c .before)))
+    (λ c. omega (arith, apart-some (c .before .before .before .pre .0)))
+    (λ c. omega (arith, within (c .before)))
+    (λ c. omega (arith, within (c .before)))
+    (λ c. omega (arith, within (c .before)))
     shared-slice-copy-out-x
-    mul-y
+    (λ c. omega (arith, within (c .before .before)))
     shared-slice-copy-out-y
-    mul-x-2
-    slice-set-from-x
-    add-y
-    mul-y-2
+    (λ c. omega arith)
+    (λ c. omega arith)
+    (λ c. omega arith)
+    (λ c. omega arith)
     slice-set-from-y
-    add-at
-    add-i
-    loop-less
+    (λ c. omega arith)
+    (λ c. omega arith)
+    (λ c. omega arith)
     loop-again
-    same-length
+    (λ c. c .before .loop .inv .3)
     returns)

@@ -32,36 +32,18 @@ small c =
     let h = startG c .pre .0 in
     (i11-small _ h, i12-small _ h, rw (c .g-of .ensures) (q-small _ h))
 
-mul-l : tie.Need-mul-l
-mul-l c = omega (arith, i11-small _ (c .before .pre .0))
-
 returns : tie.Need-returns
 unfolding base
 returns c = rw (sym (c .before .before .pre .1) ∙ c .if1 .taken)
-
-is-mode-two-requires : tie.Need-is-mode-two-requires
-is-mode-two-requires c κs = search needs
 
 returns-2 : tie.Need-returns-2
 unfolding base
 returns-2 c = rw (whole (c .before .before), sym (c .before .is-mode-two .ensures) ∙ not-true _ (c .if2 .taken))
 
-g-of-requires : tie.Need-g-of-requires
-g-of-requires c κs = search needs
-
 div-q : tie.Need-div-q
 div-q c =
     let g = c .before in
     rw (g .g-of .ensures) (g-some (startG g .args .r .v))
-
-add-t9 : tie.Need-add-t9
-add-t9 c = omega (arith, small (c .before .before .before))
-
-mul-t10 : tie.Need-mul-t10
-mul-t10 c = omega (arith, small (c .before .before .before .before))
-
-add-t12 : tie.Need-add-t12
-add-t12 c = omega (arith, small (c .before .before .before .before))
 
 returns-3 : tie.Need-returns-3
 unfolding base
@@ -73,9 +55,6 @@ returns-3 c =
       lt-ltb 1 _ (c .before .if3 .taken),
       g .g-of .ensures,
     )
-
-add-t7 : tie.Need-add-t7
-add-t7 c = omega (arith, small (c .before .before .before))
 
 returns-4 : tie.Need-returns-4
 unfolding base
@@ -92,15 +71,15 @@ pub base-of-spec : {M : Type 1} → statement M
 base-of-spec =
     tie.close
     (tie.spec
-    mul-l
+    (λ c. omega (arith, i11-small _ (c .before .pre .0)))
     returns
-    is-mode-two-requires
+    (λ c κs. search needs)
     returns-2
-    g-of-requires
+    (λ c κs. search needs)
     div-q
-    add-t9
-    mul-t10
-    add-t12
+    (λ c. omega (arith, small (c .before .before .before)))
+    (λ c. omega (arith, small (c .before .before .before .before)))
+    (λ c. omega (arith, small (c .before .before .before .before)))
     returns-3
-    add-t7
+    (λ c. omega (arith, small (c .before .before .before)))
     returns-4)

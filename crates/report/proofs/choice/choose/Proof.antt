@@ -41,16 +41,10 @@ few c = omega (arith, c .before .before .if2 .left)
 whole : (c : tie.Else4) → isHalf (startB (moved₃ (c .before) .before) .args .r) ≡ false
 whole c = sym (half (moved₃ (c .before) .before .before)) ∙ c .if4 .left
 
-said-requires : tie.Need-said-requires
-said-requires c κs = search needs
-
 returns : tie.Need-returns
 returns c =
     let s = c .before .before .before in
     two-ports-said _ (s .pre .0) (c .before .if1 .taken) _ (c .said .ensures)
-
-is-half-length-requires : tie.Need-is-half-length-requires
-is-half-length-requires c κs = search needs
 
 base-of-requires : tie.Need-base-of-requires
 base-of-requires c κs = (start₁ (c .before) .pre .0, half c)
@@ -60,22 +54,10 @@ moved-by-requires c κs =
     let s = startB c in
     base-movable (s .pre .0) (c .before .before .if1 .left) (s .pre .1) (c .base-of .ensures) (is-small (beam 0 0) tt)
 
-choose-many-requires : tie.Need-choose-many-requires
-choose-many-requires c κs = search needs
-
-returns-2 : tie.Need-returns-2
-returns-2 c = search needs
-
-said-requires-2 : tie.Need-said-requires-2
-said-requires-2 c κs = search needs
-
 returns-3 : tie.Need-returns-3
 returns-3 c =
     let a = c .before .before .before .before .before in
     said-one _ _ (first a) (c .said2 .ensures) (c .before .if3 .taken)
-
-said-requires-3 : tie.Need-said-requires-3
-said-requires-3 c κs = search needs
 
 returns-4 : tie.Need-returns-4
 returns-4 c =
@@ -111,9 +93,6 @@ moved-by-requires-2 c κs =
       rw (c .k-row .ensures) (rows-small _ _ _ .at (r .i13)),
     )
 
-said-requires-4 : tie.Need-said-requires-4
-said-requires-4 c κs = search needs
-
 -- the second beam is B, as it was before it was reduced, moved by the row of k
 returns-5 : tie.Need-returns-5
 returns-5 c =
@@ -128,18 +107,18 @@ pub choose-spec : {M : Type 1} → statement M
 choose-spec =
     tie.close
     (tie.spec
-    said-requires
+    (λ c κs. search needs)
     returns
-    is-half-length-requires
+    (λ c κs. search needs)
     base-of-requires
     moved-by-requires
-    choose-many-requires
-    returns-2
-    said-requires-2
+    (λ c κs. search needs)
+    (λ c. search needs)
+    (λ c κs. search needs)
     returns-3
-    said-requires-3
+    (λ c κs. search needs)
     returns-4
     k-row-requires
     moved-by-requires-2
-    said-requires-4
+    (λ c κs. search needs)
     returns-5)

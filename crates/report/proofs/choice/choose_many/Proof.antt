@@ -37,16 +37,10 @@ from-base s e = moved-from-base (s .args .r) e (s .pre .2)
 moved-by-requires : tie.Need-moved-by-requires
 moved-by-requires c κs = movable c (is-small (beam 1 0) tt)
 
-step-for-requires : tie.Need-step-for-requires
-step-for-requires c κs = search needs
-
 moved-by-requires-2 : tie.Need-moved-by-requires-2
 moved-by-requires-2 c κs =
     let s = c .before .before .before .before in
     movable s (decided (s .args .r .n2) (c .step-for .ensures) (is-small (beam 1 1) tt) (is-small (beam 2 0) tt))
-
-said-requires : tie.Need-said-requires
-said-requires c κs = search needs
 
 returns : tie.Need-returns
 returns c =
@@ -56,24 +50,15 @@ returns c =
     let third = from-base s (c .before .moved-by2 .ensures) (c .before .before .step-for .ensures) in
     said-three _ _ (from-base s (s .pre .3) refl) second (s .pre .4) (c .said .ensures) (few .if1 .taken) third
 
-step-for-requires-2 : tie.Need-step-for-requires-2
-step-for-requires-2 c κs = search needs
-
 moved-by-requires-3 : tie.Need-moved-by-requires-3
 moved-by-requires-3 c κs =
     let s = c .before .before .before .before in
     movable s (decided (s .args .r .n2) (c .step-for2 .ensures) (is-small (beam 0 1) tt) (is-small (beam 2 0) tt))
 
-step-for-requires-3 : tie.Need-step-for-requires-3
-step-for-requires-3 c κs = search needs
-
 moved-by-requires-4 : tie.Need-moved-by-requires-4
 moved-by-requires-4 c κs =
     let s = c .before .before .before .before .before .before in
     movable s (decided (s .args .r .n2) (c .step-for3 .ensures) (is-small (beam 1 1) tt) (is-small (beam 3 0) tt))
-
-said-requires-2 : tie.Need-said-requires-2
-said-requires-2 c κs = search needs
 
 returns-2 : tie.Need-returns-2
 returns-2 c =
@@ -90,13 +75,13 @@ choose-many-spec =
     tie.close
     (tie.spec
     moved-by-requires
-    step-for-requires
+    (λ c κs. search needs)
     moved-by-requires-2
-    said-requires
+    (λ c κs. search needs)
     returns
-    step-for-requires-2
+    (λ c κs. search needs)
     moved-by-requires-3
-    step-for-requires-3
+    (λ c κs. search needs)
     moved-by-requires-4
-    said-requires-2
+    (λ c κs. search needs)
     returns-2)

@@ -6,12 +6,6 @@ use Rattle.report.proofs.InRange.{g-some}
 use Rattle.report.proofs.choice.n_of.Statement.{statement}
 use Rattle.report.proofs.choice.n_of.Tie as tie
 
-is-mode-two-requires : tie.Need-is-mode-two-requires
-is-mode-two-requires c κs = search needs
-
-g-of-requires : tie.Need-g-of-requires
-g-of-requires c κs = search needs
-
 rem-result : tie.Need-rem-result
 rem-result c =
     let g = c .before in
@@ -28,4 +22,4 @@ unfolding n
 returns-2 c = rw (sym (c .before .is-mode-two .ensures) ∙ c .if1 .left)
 
 pub n-of-spec : {M : Type 1} → statement M
-n-of-spec = tie.close (tie.spec is-mode-two-requires g-of-requires rem-result returns returns-2)
+n-of-spec = tie.close (tie.spec (λ c κs. search needs) (λ c κs. search needs) rem-result returns returns-2)

@@ -3,11 +3,8 @@ use borrow.Author.Needs.{needs}
 use Rattle.report.proofs.choice.said.Statement.{statement}
 use Rattle.report.proofs.choice.said.Tie as tie
 
-n-of-requires : tie.Need-n-of-requires
-n-of-requires c κs = search needs
-
 returns : tie.Need-returns
 returns c = rw (c .n-of .ensures)
 
 pub said-spec : {M : Type 1} → statement M
-said-spec = tie.close (tie.spec n-of-requires returns)
+said-spec = tie.close (tie.spec (λ c κs. search needs) returns)

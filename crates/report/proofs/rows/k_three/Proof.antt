@@ -63,9 +63,6 @@ among c =
     let rows : kThree n1 (s .args .n2) ≡ grids (eqb n1 2) = unfold kThree in rw (ne-eqb _ 1 (c .if1 .left)) in
     rw rows (grid-begins (eqb n1 2) _ (rw rows at (s .pre)))
 
-add-j : tie.Need-add-j
-add-j c = omega (arith, within c)
-
 returns : tie.Need-returns
 returns c =
     let s = c .before in
@@ -85,4 +82,4 @@ returns-3 c =
     grid-at _ few ∙ among (c .before)
 
 pub k-three-spec : {M : Type 1} → statement M
-k-three-spec = tie.close (tie.spec add-j returns returns-2 returns-3)
+k-three-spec = tie.close (tie.spec (λ c. omega (arith, within c)) returns returns-2 returns-3)

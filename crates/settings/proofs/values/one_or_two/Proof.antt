@@ -16,9 +16,6 @@ right s = let a = s .args in one-or-two (a .n1) (a .n2) (a .mode) (a .v) (s .pre
 mode-one : (c : tie.Else1) → let a = c .before .before .args in modeTwo (a .n1) (a .mode) (a .v) ≡ false
 mode-one c = sym (c .before .is-mode-two .ensures) ∙ c .if1 .left
 
-is-mode-two-requires : tie.Need-is-mode-two-requires
-is-mode-two-requires c κs = search needs
-
 in-mode-two-requires : tie.Need-in-mode-two-requires
 in-mode-two-requires c κs =
     let s = c .before .before in
@@ -33,9 +30,6 @@ returns-2 c =
     let d = c .before in
     as-given (right (d .before .before)) (rw (mode-one d, eq-eqb _ 1 (c .if2 .taken)))
 
-plain-requires : tie.Need-plain-requires
-plain-requires c κs = search needs
-
 returns-3 : tie.Need-returns-3
 unfolding oneOrTwo
 returns-3 c =
@@ -44,9 +38,6 @@ returns-3 c =
     let d = e .before in
     as-given (right (d .before .before))
     (rw (c .plain .ensures, mode-one d, ne-eqb _ 1 (e .if2 .left), lt-ltb _ 8 (l .if3 .taken)))
-
-plain-requires-2 : tie.Need-plain-requires-2
-plain-requires-2 c κs = search needs
 
 returns-4 : tie.Need-returns-4
 unfolding oneOrTwo
@@ -60,4 +51,4 @@ returns-4 c =
 pub one-or-two-spec : {M : Type 1} → statement M
 one-or-two-spec =
     tie.close
-    (tie.spec is-mode-two-requires in-mode-two-requires returns returns-2 plain-requires returns-3 plain-requires-2 returns-4)
+    (tie.spec (λ c κs. search needs) in-mode-two-requires returns returns-2 (λ c κs. search needs) returns-3 (λ c κs. search needs) returns-4)

@@ -21,9 +21,6 @@ returns c =
     as-given (right (d .before))
     (rw (eq-eqb _ 2 (d .if1 .taken), lt-ltb 2 (d .before .args .n1) (omega (arith, t .if2 .taken))))
 
-plain-requires : tie.Need-plain-requires
-plain-requires c κs = search needs
-
 returns-2 : tie.Need-returns-2
 unfolding sevenOrEight
 returns-2 c =
@@ -39,9 +36,6 @@ returns-3 c =
     let d = t .before in
     as-given (right (d .before)) (rw (ne-eqb _ 2 (d .if1 .left), eq-eqb _ 8 (t .if3 .taken)))
 
-plain-requires-2 : tie.Need-plain-requires-2
-plain-requires-2 c κs = search needs
-
 returns-4 : tie.Need-returns-4
 unfolding sevenOrEight
 returns-4 c =
@@ -50,4 +44,4 @@ returns-4 c =
     as-given (right (d .before)) (rw (c .plain2 .ensures, ne-eqb _ 2 (d .if1 .left), ne-eqb _ 8 (l .if3 .left)))
 
 pub seven-or-eight-spec : {M : Type 1} → statement M
-seven-or-eight-spec = tie.close (tie.spec returns plain-requires returns-2 returns-3 plain-requires-2 returns-4)
+seven-or-eight-spec = tie.close (tie.spec returns (λ c κs. search needs) returns-2 returns-3 (λ c κs. search needs) returns-4)

@@ -14,18 +14,12 @@ returns : tie.Need-returns
 unfolding threeOrFour
 returns c = let t = c .before in as-given (right (t .before)) (rw (le-leb 16 _ (t .if1 .taken)))
 
-plain-requires : tie.Need-plain-requires
-plain-requires c κs = search needs
-
 returns-2 : tie.Need-returns-2
 unfolding threeOrFour
 returns-2 c =
     let l = c .before in
     as-given (right (l .before .before))
     (rw (c .plain .ensures, lt-leb 16 _ (l .before .if1 .left), eq-eqb _ 8 (l .if2 .taken)))
-
-plain-requires-2 : tie.Need-plain-requires-2
-plain-requires-2 c κs = search needs
 
 returns-3 : tie.Need-returns-3
 unfolding threeOrFour
@@ -34,9 +28,6 @@ returns-3 c =
     let d = l .before in
     as-given (right (d .before .before))
     (rw (c .plain2 .ensures, lt-leb 16 _ (d .before .if1 .left), ne-eqb _ 8 (d .if2 .left), eq-eqb _ 4 (l .if3 .taken)))
-
-plain-requires-3 : tie.Need-plain-requires-3
-plain-requires-3 c κs = search needs
 
 returns-4 : tie.Need-returns-4
 unfolding threeOrFour
@@ -47,4 +38,4 @@ returns-4 c =
     (rw (c .plain3 .ensures, lt-leb 16 _ (d .before .if1 .left), ne-eqb _ 8 (d .if2 .left), ne-eqb _ 4 (l .if3 .left)))
 
 pub three-or-four-spec : {M : Type 1} → statement M
-three-or-four-spec = tie.close (tie.spec returns plain-requires returns-2 plain-requires-2 returns-3 plain-requires-3 returns-4)
+three-or-four-spec = tie.close (tie.spec returns (λ c κs. search needs) returns-2 (λ c κs. search needs) returns-3 (λ c κs. search needs) returns-4)

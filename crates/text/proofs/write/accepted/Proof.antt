@@ -51,9 +51,6 @@ few-2 c =
 slice-aggregate-opened : tie.Need-slice-aggregate-opened
 slice-aggregate-opened c = refl
 
-opened-requires : tie.Need-opened-requires
-opened-requires c κs = omega arith
-
 ended-requires : tie.Need-ended-requires
 ended-requires c κs =
     let o = c .before .before .before in
@@ -66,13 +63,10 @@ ended-requires-2 c κs =
     let s = start (opened-of e) in
     omega (arith, few-2 e, adds-length (second e), s .pre)
 
-same-length : tie.Need-same-length
-same-length c = adds-length (whole (c .before .before))
-
 returns : tie.Need-returns
 returns c = whole (c .before .before)
 
 pub accepted-spec : {M : Type 1} → statement M
 accepted-spec =
     tie.close
-    (tie.spec slice-aggregate-opened opened-requires ended-requires ended-requires-2 same-length returns)
+    (tie.spec slice-aggregate-opened (λ c κs. omega arith) ended-requires ended-requires-2 (λ c. adds-length (whole (c .before .before))) returns)

@@ -9,9 +9,6 @@ use Rattle.text.proofs.write.ended.Tie as tie
 few : (c : tie.After-decimal) → c .decimal .result ≤ c .before .before .before .args .at + 3
 few c = omega (arith, c .decimal .ensures .long, written-few (c .before .before .before .args .n))
 
-decimal-requires : tie.Need-decimal-requires
-decimal-requires c κs = omega arith
-
 ending-requires : tie.Need-ending-requires
 ending-requires c κs = tt
 
@@ -20,18 +17,12 @@ slice-write-out c =
     let d = c .before .before .before in
     omega (arith, few d, adds-length (d .decimal .ensures))
 
-add-result : tie.Need-add-result
-add-result c = omega (arith, few (c .before .before .before))
-
 returns : tie.Need-returns
 returns c =
     let d = c .before .before .before in
     rw (← c .ending .ensures) (adds-byte (d .decimal .ensures) _ (omega (arith, few d)))
 
-same-length : tie.Need-same-length
-same-length c = adds-length (returns c)
-
 pub ended-spec : {M : Type 1} → statement M
 ended-spec =
     tie.close
-    (tie.spec decimal-requires ending-requires slice-write-out add-result same-length returns)
+    (tie.spec (λ c κs. omega arith) ending-requires slice-write-out (λ c. omega (arith, few (c .before .before .before))) (λ c. adds-length (returns c)) returns)

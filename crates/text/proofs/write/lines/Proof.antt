@@ -15,9 +15,6 @@ Inv-loop phases p v at out₀ n k₀ i₀ out k i = (i ≤ v * p) × Adds (lines
 abbrev μ-loop : tie.MeasureT-loop
 μ-loop phases p v at out₀ n k₀ i₀ out k i = v * p - i
 
-mul-n : tie.Need-mul-n Inv-loop μ-loop
-mul-n c = omega arith
-
 loop-holds : tie.Need-loop-holds Inv-loop μ-loop
 loop-holds c = (omega arith, rw lines-nothing (adds-nothing _ _ (omega arith)))
 
@@ -29,41 +26,17 @@ place : (c : tie.In-loop Inv-loop μ-loop)
     → let p = c .before .before .before .before .args .p in c .before .loop .i % p < p
 place c = mod-lt _ (some c)
 
-shared-slice-read-x : tie.Need-shared-slice-read-x Inv-loop μ-loop
-shared-slice-read-x c = omega arith
-
-cast-x : tie.Need-cast-x Inv-loop μ-loop
-cast-x c = omega (arith, c .shared-slice-known2 .given (c .before .before .loop .i))
-
-sub-left : tie.Need-sub-left Inv-loop μ-loop
-sub-left c = some (c .before)
-
-rem-left : tie.Need-rem-left Inv-loop μ-loop
-rem-left c = some (c .before)
-
-sub-left-2 : tie.Need-sub-left-2 Inv-loop μ-loop
-sub-left-2 c = omega (arith, place (c .before))
-
 ended-requires : tie.Need-ended-requires Inv-loop μ-loop
 ended-requires c κs =
     let l = c .before .before .before .loop in
     let a = c .before .before .before .before .before .before .args in
     omega (arith, adds-length (l .inv .1), l .inv .1 .long, lines-begun-few (a .p) (a .phases .now) (l .i))
 
-add-i : tie.Need-add-i Inv-loop μ-loop
-add-i c = omega arith
-
-loop-less : tie.Need-loop-less Inv-loop μ-loop
-loop-less c = omega arith
-
 loop-again : tie.Need-loop-again Inv-loop μ-loop
 loop-again c =
     let e = c .before .before in
     let l = e .before .before .before .before .loop in
     (omega arith, rw lines-next (adds-then (l .inv .1) (e .ended .ensures)))
-
-same-length : tie.Need-same-length Inv-loop μ-loop
-same-length c = adds-length (c .before .loop .inv .1)
 
 returns : tie.Need-returns Inv-loop μ-loop
 returns c =
@@ -78,16 +51,16 @@ lines-spec =
     (tie.spec
     Inv-loop
     μ-loop
-    mul-n
+    (λ c. omega arith)
     loop-holds
-    shared-slice-read-x
-    cast-x
-    sub-left
-    rem-left
-    sub-left-2
+    (λ c. omega arith)
+    (λ c. omega (arith, c .shared-slice-known2 .given (c .before .before .loop .i)))
+    (λ c. some (c .before))
+    (λ c. some (c .before))
+    (λ c. omega (arith, place (c .before)))
     ended-requires
-    add-i
-    loop-less
+    (λ c. omega arith)
+    (λ c. omega arith)
     loop-again
-    same-length
+    (λ c. adds-length (c .before .loop .inv .1))
     returns)

@@ -29,11 +29,8 @@ ended-requires c κs =
     let p = c .before .before .before in
     omega (arith, start p .pre, adds-length (first p))
 
-same-length : tie.Need-same-length
-same-length c = adds-length (whole (c .before .before))
-
 returns : tie.Need-returns
 returns c = whole (c .before .before)
 
 pub opened-spec : {M : Type 1} → statement M
-opened-spec = tie.close (tie.spec copy-requires ended-requires same-length returns)
+opened-spec = tie.close (tie.spec copy-requires ended-requires (λ c. adds-length (whole (c .before .before))) returns)

@@ -15,33 +15,6 @@ use Rattle.weight.proofs.Pairs.{one-weight, numbers-x, numbers-y}
 use Rattle.weight.proofs.Weight.of.Statement.{statement}
 use Rattle.weight.proofs.Weight.of.Tie as tie
 
-cast-of : tie.Need-cast-of
-cast-of c = search needs
-
-of-requires : tie.Need-of-requires
-of-requires c κs = search needs
-
-cast-at : tie.Need-cast-at
-cast-at c = search needs
-
-mul-at : tie.Need-mul-at
-mul-at c = search needs
-
-mul-t5 : tie.Need-mul-t5
-mul-t5 c = search needs
-
-array-copy-out-t9 : tie.Need-array-copy-out-t9
-array-copy-out-t9 c = search needs
-
-add-t11 : tie.Need-add-t11
-add-t11 c = search needs
-
-mul-t12 : tie.Need-mul-t12
-mul-t12 c = search needs
-
-array-copy-out-t15 : tie.Need-array-copy-out-t15
-array-copy-out-t15 c = search needs
-
 -- what the code holds in a local is the number itself
 local : {z : ℤ} → mag z < 2 ^ hbits w16 → toZ w16 (ofZ w16 z) ≡ z
 local h = toZ-ofZ {w = w16} (record { sfits = h })
@@ -59,13 +32,13 @@ pub of-spec : {M : Type 1} → statement M
 of-spec =
     tie.close
     (tie.spec
-    cast-of
-    of-requires
-    cast-at
-    mul-at
-    mul-t5
-    array-copy-out-t9
-    add-t11
-    mul-t12
-    array-copy-out-t15
+    (λ c. search needs)
+    (λ c κs. search needs)
+    (λ c. search needs)
+    (λ c. search needs)
+    (λ c. search needs)
+    (λ c. search needs)
+    (λ c. search needs)
+    (λ c. search needs)
+    (λ c. search needs)
     returns)

@@ -35,30 +35,6 @@ byte s = elem-fits w8 w8 (s .args .t1) (s .good .0 .0) (s .args .q) (s .good .0 
 small : (s : tie.Start) → s .args .code / 256 % 2 * getD (s .args .t1) (s .args .q) 0 ≤ 255
 small s = bit-of (s .args .code / 256) _ 255 (le-of-suc-le-suc (byte s .fits))
 
-array-read-c : tie.Need-array-read-c
-array-read-c c = c .pre
-
-cast-c : tie.Need-cast-c
-cast-c c = fits-widen tt (byte c)
-
-cast-half : tie.Need-cast-half
-cast-half c = fits-lit tt
-
-mul-result : tie.Need-mul-result
-mul-result c = fits-le (small (c .before)) (fits-lit tt)
-
-cast-result : tie.Need-cast-result
-cast-result c = fits-le (le-of-lt (c .before .pre)) (fits-lit tt)
-
-shr-result : tie.Need-shr-result
-shr-result c = le-trans (c .before .pre) (lit≤ tt)
-
-mul-result-2 : tie.Need-mul-result-2
-mul-result-2 c = mark-fits _
-
-add-result : tie.Need-add-result
-add-result c = sum-fits _ _ (small (c .before))
-
 returns : tie.Need-returns
 unfolding coAt
 returns c = (refl, sum-small _ _ (small (c .before)))
@@ -67,12 +43,12 @@ pub co-phase-spec : {M : Type 1} → statement M
 co-phase-spec =
     tie.close
     (tie.spec
-    array-read-c
-    cast-c
-    cast-half
-    mul-result
-    cast-result
-    shr-result
-    mul-result-2
-    add-result
+    (λ c. c .pre)
+    (λ c. fits-widen tt (byte c))
+    (λ c. fits-lit tt)
+    (λ c. fits-le (small (c .before)) (fits-lit tt))
+    (λ c. fits-le (le-of-lt (c .before .pre)) (fits-lit tt))
+    (λ c. le-trans (c .before .pre) (lit≤ tt))
+    (λ c. mark-fits _)
+    (λ c. sum-fits _ _ (small (c .before)))
     returns)

@@ -78,27 +78,12 @@ second-laid c =
     (a .h) drawn (c .put2 .ensures) (c .put2 .kept .0) (s .pre .1) (s .pre .4) (s .pre .3)
     (second-within (t .before .loop .to) (a .h) _ (room t) _ (one .put .kept .0))
 
-cast-x : tie.Need-cast-x Inv-loop μ-loop
-cast-x c = byte-fits _
-
-cast-y : tie.Need-cast-y Inv-loop μ-loop
-cast-y c = byte-fits _
-
 loop-holds : tie.Need-loop-holds Inv-loop μ-loop
 unfolding coRow column product
 loop-holds c = (zero-le, none-yet (c .before .args .at) (c .before .args .h), laid-none _ _)
 
-mul-co-phase : tie.Need-mul-co-phase Inv-loop μ-loop
-mul-co-phase c = even-fits _ _ (c .before .before .before .pre .0) (c .loop-test .taken)
-
 co-phase-requires : tie.Need-co-phase-requires Inv-loop μ-loop
 co-phase-requires c κs = even-below _ _ (c .before .before .before .pre .0) (c .loop-test .taken)
-
-mul-co-phase-2 : tie.Need-mul-co-phase-2 Inv-loop μ-loop
-mul-co-phase-2 c = even-fits _ _ (c .before .before .before .before .pre .0) (c .before .loop-test .taken)
-
-add-co-phase : tie.Need-add-co-phase Inv-loop μ-loop
-add-co-phase c = odd-fits _ _ (c .before .before .before .before .pre .0) (c .before .loop-test .taken)
 
 co-phase-requires-2 : tie.Need-co-phase-requires-2 Inv-loop μ-loop
 co-phase-requires-2 c κs = odd-below _ _ (c .before .before .before .before .pre .0) (c .before .loop-test .taken)
@@ -134,9 +119,6 @@ add-q c =
     let t = turn-of (first-of (c .before .before)) in
     next-fits _ _ (le-trans (t .before .before .before .pre .0) (lit≤ tt)) (t .loop-test .taken)
 
-loop-less : tie.Need-loop-less Inv-loop μ-loop
-loop-less c = falls _ _ (turn-of (first-of (c .before .before)) .loop-test .taken)
-
 loop-again : tie.Need-loop-again Inv-loop μ-loop
 loop-again c =
     let two = c .before .before in
@@ -147,9 +129,6 @@ loop-again c =
       pair-end (a .at) (a .h) (l .q) (l .to) (l .inv .1),
       laid-pair (a .co) (a .code) (l .q) (beam (a .h) (a .w) (a .step)) (l .inv .2) (first-laid one) (second-laid two),
     )
-
-same-length : tie.Need-same-length Inv-loop μ-loop
-same-length c = c .before .loop .inv .2 .long
 
 returns : tie.Need-returns Inv-loop μ-loop
 returns c =
@@ -167,13 +146,13 @@ column-spec =
     (tie.spec
     Inv-loop
     μ-loop
-    cast-x
-    cast-y
+    (λ c. byte-fits _)
+    (λ c. byte-fits _)
     loop-holds
-    mul-co-phase
+    (λ c. even-fits _ _ (c .before .before .before .pre .0) (c .loop-test .taken))
     co-phase-requires
-    mul-co-phase-2
-    add-co-phase
+    (λ c. even-fits _ _ (c .before .before .before .before .pre .0) (c .before .loop-test .taken))
+    (λ c. odd-fits _ _ (c .before .before .before .before .pre .0) (c .before .loop-test .taken))
     co-phase-requires-2
     draw-requires
     put-requires
@@ -181,7 +160,7 @@ column-spec =
     put-requires-2
     add-to-2
     add-q
-    loop-less
+    (λ c. falls _ _ (turn-of (first-of (c .before .before)) .loop-test .taken))
     loop-again
-    same-length
+    (λ c. c .before .loop .inv .2 .long)
     returns)

@@ -29,23 +29,8 @@ abbrev μ-loop : tie.MeasureT-loop
 shares-requires : tie.Need-shares-requires Inv-loop μ-loop
 shares-requires c κs = (c .pre .0, c .pre .1)
 
-cast-n : tie.Need-cast-n Inv-loop μ-loop
-cast-n c = length-fits _ (c .before .pre .1)
-
 loop-holds : tie.Need-loop-holds Inv-loop μ-loop
 loop-holds c = (lit≤ tt, refl, refl, refl, refl)
-
-cast-j : tie.Need-cast-j Inv-loop μ-loop
-cast-j c = place-fits _ (c .loop-test .taken)
-
-mul-a : tie.Need-mul-a Inv-loop μ-loop
-mul-a c = product-fits _ _ (c .before .before .shares .ensures) _ (c .loop-test .taken)
-
-mul-b : tie.Need-mul-b Inv-loop μ-loop
-mul-b c = row-fits _ _ (c .before .before .shares .ensures) _ (c .loop-test .taken)
-
-sub-b : tie.Need-sub-b Inv-loop μ-loop
-sub-b c = row-within _ _ (c .before .before .shares .ensures) _ (c .loop-test .taken)
 
 mul-z : tie.Need-mul-z Inv-loop μ-loop
 mul-z c =
@@ -67,40 +52,10 @@ add-first c =
     let p = c .before .before .before .pre in
     sum-fits _ _ (c .before .before .shares .ensures) _ (c .loop-test .taken) (p .0) (p .1) _ _ (p .2) (p .3) _ (p .4)
 
-cast-first : tie.Need-cast-first Inv-loop μ-loop
-cast-first c = fits-lit tt
-
-rem-first : tie.Need-rem-first Inv-loop μ-loop
-rem-first c = lit< tt
-
-cast-first-2 : tie.Need-cast-first-2 Inv-loop μ-loop
-cast-first-2 c = phase-fits _
-
-array-write-first : tie.Need-array-write-first Inv-loop μ-loop
-array-write-first c = c .loop-test .taken
-
 add-second : tie.Need-add-second Inv-loop μ-loop
 add-second c =
     let p = c .before .before .before .pre in
     sum-fits _ _ (c .before .before .shares .ensures) _ (c .loop-test .taken) (p .0) (p .1) _ _ (p .2) (p .3) _ (p .5)
-
-cast-second : tie.Need-cast-second Inv-loop μ-loop
-cast-second c = fits-lit tt
-
-rem-second : tie.Need-rem-second Inv-loop μ-loop
-rem-second c = lit< tt
-
-cast-second-2 : tie.Need-cast-second-2 Inv-loop μ-loop
-cast-second-2 c = phase-fits _
-
-array-write-second : tie.Need-array-write-second Inv-loop μ-loop
-array-write-second c = c .loop-test .taken
-
-add-i : tie.Need-add-i Inv-loop μ-loop
-add-i c = next-fits 16 _ (lit≤ tt) (c .loop-test .taken)
-
-loop-less : tie.Need-loop-less Inv-loop μ-loop
-loop-less c = falls 16 _ (c .loop-test .taken)
 
 loop-again : tie.Need-loop-again Inv-loop μ-loop
 loop-again c =
@@ -132,26 +87,26 @@ draw-spec =
     Inv-loop
     μ-loop
     shares-requires
-    cast-n
+    (λ c. length-fits _ (c .before .pre .1))
     loop-holds
-    cast-j
-    mul-a
-    mul-b
-    sub-b
+    (λ c. place-fits _ (c .loop-test .taken))
+    (λ c. product-fits _ _ (c .before .before .shares .ensures) _ (c .loop-test .taken))
+    (λ c. row-fits _ _ (c .before .before .shares .ensures) _ (c .loop-test .taken))
+    (λ c. row-within _ _ (c .before .before .shares .ensures) _ (c .loop-test .taken))
     mul-z
     mul-z-2
     add-z
     add-first
-    cast-first
-    rem-first
-    cast-first-2
-    array-write-first
+    (λ c. fits-lit tt)
+    (λ c. lit< tt)
+    (λ c. phase-fits _)
+    (λ c. c .loop-test .taken)
     add-second
-    cast-second
-    rem-second
-    cast-second-2
-    array-write-second
-    add-i
-    loop-less
+    (λ c. fits-lit tt)
+    (λ c. lit< tt)
+    (λ c. phase-fits _)
+    (λ c. c .loop-test .taken)
+    (λ c. next-fits 16 _ (lit≤ tt) (c .loop-test .taken))
+    (λ c. falls 16 _ (c .loop-test .taken))
     loop-again
     returns)

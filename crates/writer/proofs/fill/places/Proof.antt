@@ -35,15 +35,6 @@ shared-slice-read-kept c =
     let s = c .before .before .before in
     sixteen-within (s .args .at) _ _ (c .before .loop-test .taken) (s .pre) _ refl
 
-array-write-kept : tie.Need-array-write-kept Inv-loop μ-loop
-array-write-kept c = c .before .loop-test .taken
-
-add-i : tie.Need-add-i Inv-loop μ-loop
-add-i c = next-fits 16 _ (lit≤ tt) (c .before .loop-test .taken)
-
-loop-less : tie.Need-loop-less Inv-loop μ-loop
-loop-less c = falls 16 _ (c .before .loop-test .taken)
-
 loop-again : tie.Need-loop-again Inv-loop μ-loop
 loop-again c =
     let l = c .before .before .loop in
@@ -71,8 +62,8 @@ places-spec =
     loop-holds
     add-kept
     shared-slice-read-kept
-    array-write-kept
-    add-i
-    loop-less
+    (λ c. c .before .loop-test .taken)
+    (λ c. next-fits 16 _ (lit≤ tt) (c .before .loop-test .taken))
+    (λ c. falls 16 _ (c .before .loop-test .taken))
     loop-again
     returns)

@@ -21,9 +21,6 @@ abbrev μ-loop : tie.MeasureT-loop
 loop-holds : tie.Need-loop-holds Inv-loop μ-loop
 loop-holds c = (lit≤ tt, paste-zero _ (c .args .at) [], refl)
 
-array-read-out : tie.Need-array-read-out Inv-loop μ-loop
-array-read-out c = c .loop-test .taken
-
 add-out : tie.Need-add-out Inv-loop μ-loop
 add-out c =
     let s = c .before .before in
@@ -34,12 +31,6 @@ slice-write-out c =
     let s = c .before .before in
     sixteen-within (s .args .at) _ _ (c .loop-test .taken) (s .pre) _ (c .before .loop .inv .2)
 
-add-i : tie.Need-add-i Inv-loop μ-loop
-add-i c = next-fits 16 _ (lit≤ tt) (c .loop-test .taken)
-
-loop-less : tie.Need-loop-less Inv-loop μ-loop
-loop-less c = falls 16 _ (c .loop-test .taken)
-
 loop-again : tie.Need-loop-again Inv-loop μ-loop
 loop-again c =
     let l = c .before .loop in
@@ -49,9 +40,6 @@ loop-again c =
           (c .before .before .pre),
       simp length-set (l .inv .2),
     )
-
-same-length : tie.Need-same-length Inv-loop μ-loop
-same-length c = c .before .loop .inv .2
 
 returns : tie.Need-returns Inv-loop μ-loop
 returns c =
@@ -66,11 +54,11 @@ put-spec =
     Inv-loop
     μ-loop
     loop-holds
-    array-read-out
+    (λ c. c .loop-test .taken)
     add-out
     slice-write-out
-    add-i
-    loop-less
+    (λ c. next-fits 16 _ (lit≤ tt) (c .loop-test .taken))
+    (λ c. falls 16 _ (c .loop-test .taken))
     loop-again
-    same-length
+    (λ c. c .before .loop .inv .2)
     returns)
