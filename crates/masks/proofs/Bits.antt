@@ -3,9 +3,9 @@ use mathlib.Core.Path.{_≡_, refl, sym}
 use mathlib.Core.Bool.{Bool, false, _||_}
 use mathlib.Core.List.{List}
 use Prim.Native.Nat.{ℕ, zero, suc, _+_, _*_, _≤_}
-use native.Mathlib.Nat.{le-trans, le-of-eq, min-le-left}
+use native.Mathlib.Nat.{min-le-left}
 use native.Mathlib.Omega.{arith}
-use lib.ListN.{length, getD, drop, length-take, drop-of-length-le}
+use lib.ListN.{length, getD, drop, length-take, length-drop, drop-of-length-le}
 use lib.Seq.{take-nil}
 use Rattle.ground.specs.Lists.{some}
 use Rattle.ground.proofs.Booleans.{or-nothing}
@@ -21,10 +21,9 @@ module _ (mask : List ℕ) (width : ℕ) (l m : List ℕ) where
   abbrev pub zeroFrom : ℕ → ℕ → Bool
   zeroFrom i n = barred mask (drop i (bitsOf n width l m))
 
-  pub from-first : (n : ℕ) → 1 ≤ n → zeroFrom 0 n ≡ (zeroAt 0 || zeroFrom 1 n)
+  pub from-first : (n : ℕ) → zeroFrom 0 n ≡ (zeroAt 0 || zeroFrom 1 n)
   unfolding barred some bitsOf
-  from-first zero h = absurd (omega arith)
-  from-first (suc n) h = refl
+  from-first n = refl
 
   pub from-second : (n : ℕ) → 2 ≤ n → zeroFrom 1 n ≡ (zeroAt 1 || zeroFrom 2 n)
   unfolding barred some bitsOf
@@ -48,8 +47,9 @@ module _ (mask : List ℕ) (width : ℕ) (l m : List ℕ) where
   from-fourth (suc (suc (suc (suc n)))) h = rw (take-nil {A = ℕ} n) (sym (or-nothing (zeroAt 3)))
 
   -- past the beams there is none
-  pub none-past : (i n : ℕ) → n ≤ i → zeroFrom i n ≡ false
+  pub none-past : (i n : ℕ) → n ≤ suc i → zeroFrom (suc i) n ≡ false
   unfolding barred some bitsOf
   none-past i n h =
-      let short : length (bitsOf n width l m) ≤ i = le-trans (le-trans (le-of-eq (length-take n _)) (min-le-left n _)) h in
+      let short : length (bitsOf n width l m) ≤ suc i =
+      simp (length-drop, length-take) (omega (arith, min-le-left n 4)) in
       rw (drop-of-length-le (bitsOf n width l m) short)

@@ -3,16 +3,16 @@ use mathlib.Core.Bool.{not, _||_}
 use mathlib.Core.List.{List, [], _∷_}
 use Prim.Native.Nat.{ℕ, _+_, _*_}
 use lib.Dec.{eqb, ltb}
-use lib.ListN.{length, getD, take}
+use lib.ListN.{length, getD, take, drop}
 use Rattle.ground.specs.Cases.{_⇒_∣_}
 use Rattle.plan.specs.Masks.{barred, rankBarred}
 use Rattle.masks.specs.declared.Needs.{Needs}
 
--- the bits of up to four beams, in a mask of so many bits for each l
+-- the bits of one to four beams, in a mask of so many bits for each l
 unfoldable pub bitsOf : ℕ → ℕ → List ℕ → List ℕ → List ℕ
 bitsOf n width l m =
     let bit : ℕ → ℕ = λ i. width * getD l i 0 + getD m i 0 in
-    take n (bit 0 ∷ bit 1 ∷ bit 2 ∷ bit 3 ∷ [])
+    bit 0 ∷ drop 1 (take n (bit 0 ∷ bit 1 ∷ bit 2 ∷ bit 3 ∷ []))
 
 -- the number of the refusal, or 0
 unfoldable pub admitted : Needs → List ℕ → ℕ → ℕ → ℕ

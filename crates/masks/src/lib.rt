@@ -1,12 +1,14 @@
 // The refusals that every codebook shares: the masks, and the room in the lent buffer.
 ghost use mathlib.Core.Path.{_≡_};
 ghost use Prim.Native.Nat.{_+_, _*_, _≤_};
+ghost use lib.Dec.{ltb};
 ghost use lib.ListN.{drop};
+ghost use Rattle.ground.specs.Cases.{_⇒_∣_};
 ghost use Rattle.plan.specs.Masks.{isZero, barred, rankBarred};
 ghost use Rattle.masks.specs.Admitted.{bitsOf, admitted};
 
 // What a report asks for: the first of its codebook's own refusals that applies, or 0; the bytes of the beam mask; its
-// layers; the entries v·P of its precoder; and how many beams the mask is asked for, up to four, how many bits it has for
+// layers; the entries v·P of its precoder; and how many beams the mask is asked for, one to four, how many bits it has for
 // each l, and l and m of each beam.
 pub struct Needs {
     pub refusal: u32,
@@ -52,22 +54,6 @@ fn later_zero(mask: &[u8], n: u32, width: u32, l: [u32; 4], m: [u32; 4]) -> bool
     is_zero(mask, width, l[3], m[3])
 }
 
-// Whether one of the bits is zero.
-fn some_zero(mask: &[u8], n: u32, width: u32, l: [u32; 4], m: [u32; 4]) -> bool
-    ensures { λ t. ⌜ t ≡ barred (now (mask .entry)) (bitsOf n width l m) ⌝ }
-{
-    if n == 0 {
-        return false;
-    }
-    if is_zero(mask, width, l[0], m[0]) {
-        return true;
-    }
-    if n == 1 {
-        return false;
-    }
-    later_zero(mask, n, width, l, m)
-}
-
 // Whether the bit of v layers is zero.
 fn rank_barred(ranks: u8, v: u32) -> bool
     ensures { λ t. ⌜ t ≡ rankBarred ranks v ⌝ }
@@ -79,6 +65,13 @@ fn rank_barred(ranks: u8, v: u32) -> bool
         return true;
     }
     (ranks as u32 >> (v - 1)) % 2 == 0
+}
+
+// 11 where there is no room for the entries, and else 0.
+fn short_of(entries: u32, room: usize) -> u32
+    ensures { λ k. ⌜ k ≡ (ltb room entries ⇒ 11 ∣ 0) ⌝ }
+{
+    if room < entries as usize { 11 } else { 0 }
 }
 
 // The first refusal that applies to a report, or 0: 3 where the beam mask has not the bytes needed, 5 where the rank is
@@ -106,11 +99,14 @@ pub fn admit(x: Needs, mask: &[u8], ranks: u8, room: usize) -> u32
     }
     let l = x.l;
     let m = x.m;
-    if some_zero(mask, x.count, x.width, l, m) {
+    if is_zero(mask, x.width, l[0], m[0]) {
         return 10;
     }
-    if room < x.entries as usize {
-        return 11;
+    if x.count < 2 {
+        return short_of(x.entries, room);
     }
-    0
+    if later_zero(mask, x.count, x.width, l, m) {
+        return 10;
+    }
+    short_of(x.entries, room)
 }

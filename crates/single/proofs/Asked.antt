@@ -4,7 +4,7 @@ use mathlib.Core.Logic.{_≢_}
 use mathlib.Core.Bool.{Bool, true, false}
 use mathlib.Core.List.{List, [], _∷_, _++_, map}
 use Prim.Native.Nat.{ℕ, suc, _+_, _*_, _≤_}
-use native.Mathlib.Nat.{zero-mul}
+use native.Mathlib.Nat.{not-suc-le-zero}
 use native.Mathlib.Omega.{arith}
 use lib.ListN.{length, getD, take}
 use borrow.Author.Tests.{eq-eqb, ne-eqb}
@@ -17,7 +17,7 @@ use Rattle.report.specs.declared.Report.{Report}
 use Rattle.report.specs.declared.Beams.{Beams}
 use Rattle.report.specs.Rules.{rule, ownOrder, InRange}
 use Rattle.report.specs.Beams.{beams, four, said, beamsOf}
-use Rattle.report.proofs.Offsets.{length-beams, offsets-few}
+use Rattle.report.proofs.Offsets.{length-beams, offsets-some, offsets-few}
 use Rattle.masks.specs.declared.Needs.{Needs}
 use Rattle.masks.specs.Admitted.{bitsOf}
 use Rattle.masks.specs.Asks.{Asks}
@@ -25,16 +25,16 @@ use Rattle.single.specs.Masks.{beamBit, twoPortBit, bitsRead}
 use Rattle.single.specs.Single.{indices, single}
 use Rattle.single.proofs.Given.{number-said, bytes-said, said-in-range, ports-are, down-is}
 
--- up to four beams, by their numbers
-bits-four : (n2 w : ℕ) (xs : List Beam) → w ≡ down n2 → length xs ≤ 4
+-- one to four beams, by their numbers
+bits-four : (n2 w : ℕ) (xs : List Beam) → w ≡ down n2 → 1 ≤ length xs → length xs ≤ 4
     → bitsOf (length xs) w (four (λ x. x .l) xs) (four (λ x. x .m) xs) ≡ map (beamBit n2) xs
 unfolding bitsOf
-bits-four n2 w [] e h = refl
-bits-four n2 w (a ∷ []) e h = rw e refl
-bits-four n2 w (a ∷ b ∷ []) e h = rw e refl
-bits-four n2 w (a ∷ b ∷ c ∷ []) e h = rw e refl
-bits-four n2 w (a ∷ b ∷ c ∷ d ∷ []) e h = rw e refl
-bits-four n2 w (a ∷ b ∷ c ∷ d ∷ x ∷ xs) e h =
+bits-four n2 w [] e s h = absurd (not-suc-le-zero s)
+bits-four n2 w (a ∷ []) e s h = rw e refl
+bits-four n2 w (a ∷ b ∷ []) e s h = rw e refl
+bits-four n2 w (a ∷ b ∷ c ∷ []) e s h = rw e refl
+bits-four n2 w (a ∷ b ∷ c ∷ d ∷ []) e s h = rw e refl
+bits-four n2 w (a ∷ b ∷ c ∷ d ∷ x ∷ xs) e s h =
     absurd (let five : suc (suc (suc (suc (suc (length xs))))) ≤ 4 = h in omega arith)
 
 module _ (r : Report) {b : Beams} (e : b ≡ beamsOf r) where
@@ -75,6 +75,9 @@ module _ (r : Report) {b : Beams} (e : b ≡ beamsOf r) where
         s : InRange r × (b ≡ said r 0)
         s = said-in-range r e z
 
+        some : 1 ≤ length (beams r)
+        some = omega (arith, length-beams r, offsets-some r)
+
         few : length (beams r) ≤ 4
         few = omega (arith, length-beams r, offsets-few r)
 
@@ -89,7 +92,7 @@ module _ (r : Report) {b : Beams} (e : b ≡ beamsOf r) where
         bits =
             (λ i. bitsOf (count i) (width i) (l i) (m i))
             ∙ numbers-said
-            ∙ bits-four (r .n2) (b .down) (beams r) w few
+            ∙ bits-four (r .n2) (b .down) (beams r) w some few
             ∙ (unfold bitsRead in rw (ne-eqb (r .n1) 1 more) refl)
 
 -- one bit m, of a beam with l = 0

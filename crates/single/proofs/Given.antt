@@ -20,7 +20,7 @@ use Rattle.report.specs.declared.Beams.{Beams}
 use Rattle.report.specs.Rules.{rule, ownOrder, InRange}
 use Rattle.report.specs.Beams.{beams, four, said, beamsOf}
 use Rattle.report.proofs.InRange.{zero-in-range, v-few}
-use Rattle.report.proofs.Reached.{Reached, beams-within, four-at}
+use Rattle.report.proofs.Reached.{Reached, beams-within, four-at, two-ports-beam}
 use Rattle.single.specs.Drawing.{stepOf}
 
 -- the beam at a place, and (0,0) past the last
@@ -109,7 +109,7 @@ module _ (r : Report) {b : Beams} (h : InRange r) (e : b ≡ said r 0) where
         → s ≡ stepOf r (at r i)
     step-is p = p ∙ rw (l-at, m-at, across-is, down-is) refl
 
-  -- all steps; and where there is one beam
+  -- all steps; those of two ports; and where there is one beam
   pub four-steps : {s t u v : ℕ} → s ≡ stepOf r (at r 0) → t ≡ stepOf r (at r 1)
       → u ≡ stepOf r (at r 2) → v ≡ stepOf r (at r 3)
       → _≡_ {A = List ℕ} (s ∷ t ∷ u ∷ v ∷ []) (four (stepOf r) (beams r))
@@ -117,6 +117,12 @@ module _ (r : Report) {b : Beams} (h : InRange r) (e : b ≡ said r 0) where
 
   no-step : stepOf r (beam 0 0) ≡ 0
   no-step = rw (zero-mul (turn / across (r .n1)), zero-mul (turn / down (r .n2))) refl
+
+  pub no-steps : r .n1 ≡ 1 → _≡_ {A = List ℕ} (0 ∷ 0 ∷ 0 ∷ 0 ∷ []) (four (stepOf r) (beams r))
+  no-steps two = four-steps (none 0) (none 1) (none 2) (none 3)
+    where
+      none : (i : ℕ) → 0 ≡ stepOf r (at r i)
+      none i = sym (ap (stepOf r) (two-ports-beam r h two i) ∙ no-step)
 
   pub one-step : {s : ℕ} → b .count ≡ 1 → s ≡ stepOf r (at r 0)
       → _≡_ {A = List ℕ} (s ∷ 0 ∷ 0 ∷ 0 ∷ []) (four (stepOf r) (beams r))

@@ -76,11 +76,14 @@ fn step_of(l: u32, m: u32, px: u32, py: u32) -> u32
     l * px + 256 * (m * py)
 }
 
-// The steps of the beams. Many reports have one.
+// The steps of the beams. Two ports have none, and many reports one beam.
 fn steps_of(r: Report, b: Beams) -> [u32; 4]
     requires { ⌜ InRange r × (b ≡ said r 0) ⌝ }
     ensures { λ s. ⌜ s ≡ four (stepOf r) (beams r) ⌝ }
 {
+    if r.n1 == 1 {
+        return [0; 4];
+    }
     let px = turn::TURN as u32 / b.across;
     let py = turn::TURN as u32 / b.down;
     let l = b.l;

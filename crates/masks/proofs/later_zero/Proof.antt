@@ -38,7 +38,7 @@ returns c =
     rw (from-second _ _ _ _ _ (s .pre), sym (c .before .is-zero .ensures) ∙ c .if1 .taken)
 
 returns-2 : tie.Need-returns-2
-returns-2 c = sym (past-second (c .before) ∙ none-past _ _ _ _ 2 _ (le-of-eq (c .if2 .taken)))
+returns-2 c = sym (past-second (c .before) ∙ none-past _ _ _ _ 1 _ (le-of-eq (c .if2 .taken)))
 
 returns-3 : tie.Need-returns-3
 returns-3 c =
@@ -48,7 +48,7 @@ returns-3 c =
     ∙ rw (from-third _ _ _ _ _ (three e), sym (c .before .is-zero2 .ensures) ∙ c .if3 .taken))
 
 returns-4 : tie.Need-returns-4
-returns-4 c = sym (past-third (c .before) ∙ none-past _ _ _ _ 3 _ (le-of-eq (c .if4 .taken)))
+returns-4 c = sym (past-third (c .before) ∙ none-past _ _ _ _ 2 _ (le-of-eq (c .if4 .taken)))
 
 returns-5 : tie.Need-returns-5
 returns-5 c =
