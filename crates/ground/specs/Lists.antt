@@ -3,11 +3,16 @@ use mathlib.Core.Bool.{Bool, true, false, _&&_, _||_}
 use mathlib.Core.List.{List, [], _∷_, _++_}
 use Prim.Native.Nat.{ℕ, zero, suc}
 use lib.Dec.{eqb}
+use lib.ListN.{length, drop}
 
 -- the lists of a list, one after the other
 unfoldable pub join : {A : Type 0} → List (List A) → List A
 join [] = []
 join (x ∷ xs) = x ++ join xs
+
+-- a list laid over the front of another
+abbrev pub over : {A : Type 0} → List A → List A → List A
+over xs ys = xs ++ drop (length xs) ys
 
 -- some element passes the test
 unfoldable pub some : {A : Type 0} → (A → Bool) → List A → Bool

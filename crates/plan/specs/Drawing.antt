@@ -4,8 +4,9 @@ use mathlib.Core.Bool.{Bool, _&&_}
 use mathlib.Core.List.{List, [], _∷_, _++_}
 use Prim.Native.Nat.{ℕ, zero, suc, _+_, _*_, _/_, _%_, _^_, _<_}
 use lib.Dec.{leb}
-use lib.ListN.{length, drop, getD}
+use lib.ListN.{length, getD}
 use Rattle.ground.specs.Cases.{_⇒_∣_}
+use Rattle.ground.specs.Lists.{over}
 use Rattle.turn.specs.Phase.{half}
 use Rattle.turn.specs.Column.{grid, column}
 use Rattle.plan.specs.declared.Drawing.{Drawing}
@@ -64,10 +65,14 @@ drawable s room =
     leb (s .v) 8 && leb (s .pairs) 4 && leb 1 (s .columns) && leb (s .columns) 4 && leb (entries s) 16
     && leb (s .v * height s + 16) room
 
--- what a lent list holds afterwards: the layers and then what was lent, or all of it as lent
-pub record Written (s : Drawing) (lent : List ℕ) (done : Bool) (left : List ℕ) : Type 0 where
-  pub fits : done ≡ drawable s (length lent)
-  pub stands : left ≡ (done ⇒ drawn s (s .v) ++ drop (s .v * height s) lent ∣ lent)
+-- the layers, where they can be drawn in a buffer of so many entries, and else nothing
+unfoldable pub layersIn : Drawing → ℕ → List ℕ
+layersIn s room = drawable s room ⇒ drawn s (s .v) ∣ []
+
+-- the layers stand at the front of a lent list, and so many entries they are
+pub record Written (s : Drawing) (lent : List ℕ) (n : ℕ) (left : List ℕ) : Type 0 where
+  pub many : n ≡ length (layersIn s (length lent))
+  pub stands : left ≡ over (layersIn s (length lent)) lent
 
 -- the numbers stand for a plan: its sizes, and layer by layer its columns
 pub record Draws (p : Plan) (s : Drawing) : Type 0 where

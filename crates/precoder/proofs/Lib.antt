@@ -1,6 +1,4 @@
 -- Laws that the proofs share, the demands, and the worked reports.
-pub mod Expanded
-pub mod Drawn
 pub mod Planned
 pub mod Judged
 pub mod Unique

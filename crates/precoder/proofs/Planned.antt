@@ -1,31 +1,31 @@
--- The drawing of a sound plan: it can be drawn, what is drawn is the matrix, and where P divides 16 in whole 32nds of a turn.
-use mathlib.Core.Path.{_≡_, refl, sym, ap, _∙_, subst}
-use mathlib.Core.Bool.{true}
+-- The drawing of a sound plan: what is written of it is the matrix, and where P divides 16 in whole 32nds of a turn.
+use mathlib.Core.Path.{_≡_, refl, ap, _∙_, subst}
+use mathlib.Core.Bool.{Bool, true, false}
 use mathlib.Core.List.{List, [], _∷_, map}
 use Prim.Native.Nat.{ℕ, zero, suc, _+_, _*_, _/_, _%_, _<_, _≤_}
 use native.Mathlib.Nat.{le-trans, mul-le-mul, mul-le-mul-right, le-of-dvd, dvd-of-mod-eq-zero, zero-mul, not-suc-le-zero}
 use native.Mathlib.Omega.{arith}
 use lib.ListN.{length, getD}
+use borrow.Author.Tests.{le-leb}
 use Rattle.ground.specs.Lists.{join, all-nil}
 use Rattle.ground.proofs.All.{all-append, all-each}
 use Rattle.turn.specs.Phase.{turn, eighth, thirtySecond}
 use Rattle.turn.specs.Column.{step, beam}
 use Rattle.turn.specs.Cancel.{Multiples}
 use Rattle.turn.proofs.Steps.{left-pos}
-use Rattle.turn.proofs.Multiples.{step-multiple, multiples-at, multiples-grid, multiples-column}
+use Rattle.turn.proofs.Multiples.{step-multiple, multiples-grid, multiples-column}
+use Rattle.weight.specs.Table.{weight, numbers}
 use Rattle.plan.specs.declared.Drawing.{Drawing}
 use Rattle.plan.specs.Plan.{Layer, Plan, past, layerAt, columnOf, matrix}
 use Rattle.plan.specs.Sound.{Sound}
-use Rattle.plan.specs.Drawing.{entries, height, drawn, drawable, Draws}
+use Rattle.plan.specs.Drawing.{entries, height, drawable, layersIn, Draws}
 use Rattle.plan.proofs.Matrix.{length-matrix}
 use Rattle.writer.proofs.Drawn.{drawn-matrix, sizes-drawable}
-use Rattle.precoder.specs.Lookup.{Spaced}
-use Rattle.precoder.proofs.Drawn.{drawn-below}
+use Rattle.writer.proofs.Room.{layers-drawn}
+use Rattle.render.specs.Rendered.{fitting, weightsIn}
+use Rattle.render.proofs.Rounded.{weighed-same, whole-parts}
 
 module _ (p : Plan) (s : Drawing) (sound : Sound p) (draws : Draws p s) where
-  pub drawn-is : drawn s (s .v) ≡ matrix p
-  drawn-is = drawn-matrix p s (sound .many) (draws .layers) (draws .v)
-
   -- a column has an entry for each port
   height-is : height s ≡ p .ports
   height-is =
@@ -36,15 +36,15 @@ module _ (p : Plan) (s : Drawing) (sound : Sound p) (draws : Draws p s) where
       two-blocks : (n b w : ℕ) → 2 * n ≡ b → 2 * (n * w) ≡ b * w
       two-blocks n b w e = omega (arith, ap (λ (k : ℕ). k * w) e)
 
-  pub scale-is : s .v * height s ≡ p .v * p .ports
+  scale-is : s .v * height s ≡ p .v * p .ports
   scale-is = rw (draws .v, height-is) refl
 
   -- at most 8 layers of 32 ports
-  pub entries-few : p .v * p .ports ≤ 256
+  entries-few : p .v * p .ports ≤ 256
   entries-few = mul-le-mul (sound .eight) (sound .few)
 
   -- where P divides 16, at most 8 of 16
-  pub coarse-few : 16 % p .ports ≡ 0 → p .v * p .ports ≤ 128
+  coarse-few : 16 % p .ports ≡ 0 → p .v * p .ports ≤ 128
   coarse-few d =
       let few = le-of-dvd {m = p .ports} {n = 16} (omega arith) (dvd-of-mod-eq-zero (p .ports) d) in
       le-trans (mul-le-mul-right (p .ports) (sound .eight)) (omega (arith, few))
@@ -53,7 +53,7 @@ module _ (p : Plan) (s : Drawing) (sound : Sound p) (draws : Draws p s) where
   factor zero n h = absurd (not-suc-le-zero (subst (λ (k : ℕ). 0 < k) (zero-mul n) h))
   factor (suc m) n h = omega arith
 
-  pub is-drawable : (room : ℕ) → p .v * p .ports + 16 ≤ room → drawable s room ≡ true
+  is-drawable : (room : ℕ) → p .v * p .ports + 16 ≤ room → drawable s room ≡ true
   is-drawable room h =
       sizes-drawable s room
       (record {
@@ -77,6 +77,15 @@ module _ (p : Plan) (s : Drawing) (sound : Sound p) (draws : Draws p s) where
           let same : entries s ≡ c .n1 * c .n2 = rw (draws .rows, draws .columns) refl in
           omega (arith, same, mul-le-mul-right (c .n1 * c .n2) (sound .two), sound .all, sound .few)
 
+  layers-are : (room : ℕ) → p .v * p .ports + 16 ≤ room → layersIn s room ≡ matrix p
+  layers-are room h = layers-drawn s room (is-drawable room h) ∙ drawn-matrix p s (sound .many) (draws .layers) (draws .v)
+
+  -- where there is room, the matrix is written
+  pub fitting-is : (room : ℕ) → p .v * p .ports ≤ room → fitting s room ≡ matrix p
+  unfolding fitting
+  fitting-is room h =
+      rw (layers-are 272 (omega (arith, entries-few)), le-leb (length (matrix p)) room (omega (arith, length-matrix p sound)))
+
   -- ---- multiples
 
   multiples-join : (g : ℕ) (f : Layer → List ℕ) (xs : List Layer)
@@ -86,7 +95,7 @@ module _ (p : Plan) (s : Drawing) (sound : Sound p) (draws : Draws p s) where
   multiples-join g f (y ∷ xs) h =
       all-append (h 0 (omega arith)) (multiples-join g f xs (λ j k. h (suc j) (omega arith)))
 
-  pub matrix-coarse : 16 % p .ports ≡ 0 → Multiples thirtySecond (matrix p)
+  matrix-coarse : 16 % p .ports ≡ 0 → Multiples thirtySecond (matrix p)
   unfolding matrix columnOf beam
   matrix-coarse d =
       let c = p .block in
@@ -99,8 +108,13 @@ module _ (p : Plan) (s : Drawing) (sound : Sound p) (draws : Draws p s) where
       (step-multiple thirtySecond (c .n1) (c .o1) (layerAt p j .l) (steps .0))
       (step-multiple thirtySecond (c .n2) (c .o2) (layerAt p j .m) (steps .1))))
 
-  pub coarse-spaced : 16 % p .ports ≡ 0 → Spaced thirtySecond (drawn s (s .v))
-  coarse-spaced d = record {
-    below = λ i h. drawn-below s (s .v) i;
-    each = λ i h. multiples-at thirtySecond (subst (Multiples thirtySecond) (sym drawn-is) (matrix-coarse d)) i h;
-  }
+  -- by either table the weights of the matrix are written
+  pub weights-are : (coarse : Bool) → (coarse ≡ true → 16 % p .ports ≡ 0) → (room : ℕ) → p .v * p .ports ≤ room / 2
+      → weightsIn s coarse room ≡ numbers (map weight (matrix p))
+  unfolding weightsIn
+  weights-are true d room h =
+      rw (layers-are 144 (omega (arith, coarse-few (d refl))), le-leb (length (matrix p)) (room / 2) (omega (arith, length-matrix p sound)))
+      (weighed-same thirtySecond (matrix-coarse (d refl)))
+  weights-are false d room h =
+      rw (layers-are 272 (omega (arith, entries-few)), le-leb (length (matrix p)) (room / 2) (omega (arith, length-matrix p sound)))
+      (weighed-same 1 (whole-parts (matrix p)))

@@ -103,13 +103,14 @@ fn drawing_of(r: Report, b: Beams) -> Drawing
     requires { ⌜ InRange r × (b ≡ said r 0) ⌝ }
     ensures { λ s. ⌜ s ≡ drawingOf r ⌝ }
 {
+    let v = r.v;
     let f = Phase::quarters(b.n);
     let steps = steps_of(r, b);
     if b.half {
         let t = Phase::eighths(r.i13);
         let both = f.add(t);
         return Drawing {
-            v: r.v,
+            v: v,
             pairs: 2,
             rows: r.n1 / 2,
             columns: r.n2,
@@ -120,7 +121,7 @@ fn drawing_of(r: Report, b: Beams) -> Drawing
     }
     let codes = codes_of(r.v);
     Drawing {
-        v: r.v,
+        v: v,
         pairs: 1,
         rows: r.n1,
         columns: r.n2,

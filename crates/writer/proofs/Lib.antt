@@ -4,5 +4,6 @@ pub mod Columns
 pub mod Placed
 pub mod Rows
 pub mod Drawn
+pub mod Room
 pub mod Laid
 pub mod Unique

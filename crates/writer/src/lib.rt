@@ -59,17 +59,18 @@ fn layers(s: Drawing, out: &mut [Part])
     }
 }
 
-// Writes the layers of a drawing, one after the other, to the front of `out`, and says so. Entries after them stay as lent.
-// Where the sizes are larger than any plan's, or `out` has not sixteen entries more than the layers, all of it stays.
-pub fn matrix(s: Drawing, out: &mut [Part]) -> bool
-    ensures { λ t. ⌜ Written s (now (out .entry)) t (now (out .exit)) ⌝ }
+// Writes the layers of a drawing, one after the other, to the front of `out`, and gives the number of their entries. Entries
+// after them stay as lent. Where the sizes are larger than any plan's, or `out` has not sixteen entries more than the layers,
+// 0 is given and all of it stays.
+pub fn matrix(s: Drawing, out: &mut [Part]) -> usize
+    ensures { λ n. ⌜ Written s (now (out .entry)) n (now (out .exit)) ⌝ }
 {
     if !is_drawable(s, out.len()) {
-        return false;
+        return 0;
     }
     let end = (s.v * (2 * (s.pairs * (s.rows * s.columns)))) as usize;
     let kept = fill::places(out, end);
     layers(s, out);
     fill::put(out, end, kept);
-    true
+    end
 }

@@ -1,5 +1,5 @@
 -- `matrix` meets its contract: the sixteen entries after the layers are kept and put back.
-use mathlib.Core.Path.{_≡_, refl, sym, ap, _∙_}
+use mathlib.Core.Path.{_≡_, refl, sym, ap, ap₂, _∙_}
 use mathlib.Core.Bool.{true}
 use mathlib.Core.List.{List, _++_}
 use Prim.Native.Nat.{ℕ, _+_, _*_, _≤_}
@@ -12,6 +12,7 @@ use Rattle.plan.specs.Drawing.{height, drawn, drawable}
 use Rattle.writer.proofs.Numbers.{small-32, small-64, half-small, height-small, all-small}
 use Rattle.writer.proofs.Laid.{put-back}
 use Rattle.writer.proofs.Drawn.{Sizes, drawable-sizes}
+use Rattle.writer.proofs.Room.{layers-drawn, layers-none, length-layers}
 use Rattle.writer.proofs.matrix.Statement.{statement}
 use Rattle.writer.proofs.matrix.Tie as tie
 
@@ -30,7 +31,9 @@ is-drawable-requires : tie.Need-is-drawable-requires
 is-drawable-requires c κs = tt
 
 returns : tie.Need-returns
-returns c = record { fits = sym (not-true _ (c .if1 .taken)) ∙ c .before .is-drawable .ensures; stands = refl }
+returns c =
+    let none = layers-none _ _ (sym (c .before .is-drawable .ensures) ∙ not-true _ (c .if1 .taken)) in
+    record { many = sym (ap length none); stands = rw none refl }
 
 mul-end-2 : tie.Need-mul-end-2
 mul-end-2 c =
@@ -73,10 +76,12 @@ returns-2 c =
     let end : ℕ = a .s .v * height (a .s) in
     let back = ap (λ (kept : List ℕ). take end (l .layers .last .1 .0) ++ kept ++ drop (end + 16) (l .layers .last .1 .0))
     (places .ensures) in
+    let long = length-layers (a .s) _ (passed e) in
     record {
-      fits = sym (passed e);
+      many = sym long;
       stands = put-back (now (a .out)) (l .layers .last .1 .0) (drawn (a .s) (a .s .v)) end (l .layers .ensures)
-          (put .ensures ∙ back);
+          (put .ensures ∙ back)
+          ∙ ap₂ {C = List ℕ} (λ xs k. xs ++ drop k (now (a .out))) (sym (layers-drawn (a .s) _ (passed e))) (sym long);
     }
 
 pub matrix-spec : {M : Type 1} → statement M

@@ -1,7 +1,7 @@
--- A table that is lent for a lookup, and the phases that it serves.
+-- A table that is lent for a lookup, and the phases that are looked up.
 use mathlib.Core.Path.{_≡_}
 use mathlib.Core.List.{List}
-use Prim.Native.Nat.{ℕ, _*_, _/_, _%_, _<_}
+use Prim.Native.Nat.{ℕ, _*_, _/_, _<_, _≤_}
 use lib.IntN.{ℤ}
 use lib.ListN.{length, getD}
 use Rattle.turn.specs.Phase.{turn}
@@ -12,7 +12,7 @@ pub record Sampled (apart : ℕ) (stored : List ℤ) : Type 0 where
   pub whole : apart * (turn / apart) ≡ turn
   pub same : stored ≡ numbers (sampled apart)
 
--- phases, all multiples of `apart`
-pub record Spaced (apart : ℕ) (xs : List ℕ) : Type 0 where
-  pub below : (i : ℕ) → i < length xs → getD xs i 0 < turn
-  pub each : (i : ℕ) → i < length xs → getD xs i 0 % apart ≡ 0
+-- the first n of a list are phases
+pub record Reduced (n : ℕ) (xs : List ℕ) : Type 0 where
+  pub long : n ≤ length xs
+  pub below : (i : ℕ) → i < n → getD xs i 0 < turn

@@ -1,2 +1,0 @@
--- What the contracts of the lookup cite.
-pub mod Lookup

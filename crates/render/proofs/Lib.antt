@@ -1,0 +1,5 @@
+-- Laws that the proofs share.
+pub mod Written
+pub mod Weighed
+pub mod Rounded
+pub mod Unique

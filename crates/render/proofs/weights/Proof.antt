@@ -1,0 +1,68 @@
+-- `weights` meets its contract: the layers are written into a buffer of its own, and looked up in a table.
+use mathlib.Core.Path.{refl, ap, _∙_}
+use mathlib.Core.List.{List}
+use Prim.Native.Nat.{ℕ}
+use lib.ListN.{length}
+use denote.Ref.{now}
+use borrow.Author.Needs.{needs}
+use Rattle.ground.specs.Lists.{over}
+use Rattle.turn.specs.Phase.{thirtySecond}
+use Rattle.weight.specs.Table.{numbers}
+use Rattle.weight.proofs.Pairs.{sampled-one}
+use Rattle.render.specs.Rendered.{weighedIn, weightsIn}
+use Rattle.render.proofs.Written.{front, front-reduced}
+use Rattle.render.proofs.weights.Statement.{statement}
+use Rattle.render.proofs.weights.Tie as tie
+
+expand-requires : tie.Need-expand-requires
+expand-requires c κs =
+    let m = c .before .before .before .before .before in
+    (record { whole = refl; same = c .before .before .before .coarse .ensures }, front-reduced _ (m .matrix .ensures))
+
+returns : tie.Need-returns
+unfolding weightsIn
+returns c =
+    let m = c .before .before .before .before .before .before .before in
+    let a = m .before .before .before .args in
+    rw (m .before .before .if1 .taken)
+    (c .before .expand .ensures
+    ∙ ap (λ (xs : List ℕ). over (weighedIn thirtySecond xs (length (now (a .out)))) (now (a .out)))
+    (front (a .s) (m .matrix .ensures)))
+
+expand-requires-2 : tie.Need-expand-requires-2
+expand-requires-2 c κs =
+    let m = c .before .before .before .before .before in (
+      record { whole = refl; same = c .before .before .before .table2 .ensures ∙ ap numbers sampled-one },
+      front-reduced _ (m .matrix2 .ensures),
+    )
+
+returns-2 : tie.Need-returns-2
+unfolding weightsIn
+returns-2 c =
+    let m = c .before .before .before .before .before .before .before in
+    let a = m .before .before .before .args in
+    rw (m .before .before .if1 .left)
+    (c .before .expand2 .ensures
+    ∙ ap (λ (xs : List ℕ). over (weighedIn 1 xs (length (now (a .out)))) (now (a .out)))
+    (front (a .s) (m .matrix2 .ensures)))
+
+pub weights-spec : {M : Type 1} → statement M
+weights-spec =
+    tie.close
+    (tie.spec
+    (λ c. search needs)
+    (λ c κs. search needs)
+    (λ c κs. search needs)
+    (λ c. search needs)
+    (λ c. search needs)
+    expand-requires
+    (λ c. search needs)
+    returns
+    (λ c. search needs)
+    (λ c κs. search needs)
+    (λ c κs. search needs)
+    (λ c. search needs)
+    (λ c. search needs)
+    expand-requires-2
+    (λ c. search needs)
+    returns-2)
