@@ -1,7 +1,7 @@
 -- A property of every element of a list.
 use mathlib.Core.Path.{sym, subst}
 use mathlib.Core.Logic.{inl, inr}
-use mathlib.Core.List.{List, [], _∷_, _++_, map}
+use mathlib.Core.List.{List, _++_, map}
 use Prim.Native.Nat.{ℕ}
 use lib.Dec.{T, eqb, eqb→eq}
 use Rattle.ground.specs.Lists.{among, All, all-nil, all-cons}

@@ -23,7 +23,8 @@ use Rattle.plan.specs.declared.Record.{Record}
 use Rattle.plan.specs.Plan.{Layer, past, layerAt, columnOf, matrix, layer}
 use Rattle.plan.specs.Sound.{Sound}
 use Rattle.plan.specs.Masks.{bit}
-use Rattle.plan.specs.Answer.{Asked, Codebook, asked, own, early, test, refusal, Called, Phases, weightsOf, Weights}
+use Rattle.plan.specs.Answer.{Asked, Codebook, asked, own, early, test, refusal, Called, Phases, weightsOf}
+use Rattle.plan.specs.Answer.{Weights}
 use Rattle.plan.specs.Lawful.{Lawful}
 use Rattle.plan.proofs.Layers.{layer-before, layer-map}
 use Rattle.plan.proofs.Bits.{bits-one, bit-one}

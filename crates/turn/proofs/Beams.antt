@@ -1,11 +1,11 @@
 -- Two beams of one setting that lie whole multiples of the oversampling apart, over N1 and N2.
 use mathlib.Core.Path.{_≡_, sym, _∙_}
-use mathlib.Core.Logic.{_≢_, _⊎_, inl, inr}
+use mathlib.Core.Logic.{_≢_, inl, inr}
 use mathlib.Core.List.{List, map}
-use Prim.Native.Nat.{ℕ, _+_, _*_, _/_, _%_}
+use Prim.Native.Nat.{ℕ, _+_, _*_, _%_}
 use lib.ListN.{length}
 use Rattle.turn.specs.Apart.{Apart, Common}
-use Rattle.turn.specs.Phase.{turn, phase}
+use Rattle.turn.specs.Phase.{phase}
 use Rattle.turn.specs.Column.{Setting, Divides, steps, product, beam}
 use Rattle.turn.specs.Exact.{differences}
 use Rattle.turn.proofs.Lists.{length-beam}

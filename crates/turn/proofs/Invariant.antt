@@ -6,10 +6,9 @@ use native.Mathlib.Nat.{zero-mul, suc-mul}
 use native.Mathlib.Omega.{arith}
 use Rattle.turn.specs.Phase.{phase}
 use Rattle.turn.specs.Column.{steps, product}
-use Rattle.turn.specs.Cancel.{Invariant}
-use Rattle.turn.specs.Cancel.{total, Steady}
-use Rattle.turn.proofs.Totals.{total-cong, total-append, total-map, total-product, steady-same}
-use Rattle.turn.proofs.Totals.{steady-shift, steady-total}
+use Rattle.turn.specs.Cancel.{Invariant, total}
+use Rattle.turn.proofs.Totals.{total-cong, total-append, total-map, total-product, steady-same, steady-shift}
+use Rattle.turn.proofs.Totals.{steady-total}
 
 -- two turns, one after the other
 pub invariant-add : {g h : ℕ} {xs : List ℕ} → Invariant g xs → Invariant h xs → Invariant (g + h) xs

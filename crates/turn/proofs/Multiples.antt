@@ -2,8 +2,8 @@
 use mathlib.Core.Path.{_≡_, _∙_}
 use mathlib.Core.List.{List, map}
 use Prim.Native.Nat.{ℕ, zero, suc, _+_, _*_, _/_, _%_, _<_}
-use native.Mathlib.Nat.{dvd-add, dvd-of-mod-eq-zero, mod-eq-zero-of-dvd, mod-mod-of-dvd}
-use native.Mathlib.Nat.{not-suc-le-zero, le-of-suc-le-suc}
+use native.Mathlib.Nat.{dvd-add, dvd-of-mod-eq-zero, mod-eq-zero-of-dvd, mod-mod-of-dvd, not-suc-le-zero}
+use native.Mathlib.Nat.{le-of-suc-le-suc}
 use lib.ListN.{length, getD}
 use Rattle.turn.specs.Phase.{turn, phase}
 use Rattle.turn.specs.Column.{steps, product, grid, step, column}

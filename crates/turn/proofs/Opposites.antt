@@ -1,6 +1,6 @@
 -- Co-phases of which some are opposite: two lists that agree as often as they are opposite.
 use mathlib.Core.Path.{_≡_, sym, ap, ap₂, _∙_}
-use mathlib.Core.Bool.{Bool, true, false, not, cond}
+use mathlib.Core.Bool.{Bool, true, false, cond}
 use mathlib.Core.List.{List, [], _∷_}
 use Prim.Native.Nat.{ℕ, _+_, _*_}
 use native.Mathlib.Omega.{arith}
@@ -8,8 +8,7 @@ use lib.ListN.{length}
 use Rattle.turn.specs.Apart.{flipped, differ, agreeing, differing, Even}
 use Rattle.turn.specs.Phase.{turn, half, difference}
 use Rattle.turn.specs.Exact.{differences}
-use Rattle.turn.specs.Cancel.{total}
-use Rattle.turn.specs.Cancel.{Invariant}
+use Rattle.turn.specs.Cancel.{total, Invariant}
 
 difference-flipped : (x : ℕ) (m n : Bool) → difference (x + cond m half 0) (x + cond n half 0) ≡ cond (differ m n) half 0
 unfolding difference

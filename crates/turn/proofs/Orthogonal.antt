@@ -15,9 +15,8 @@ use Rattle.turn.specs.Cancel.{Invariant}
 use Rattle.turn.proofs.Invariant.{invariant-left, invariant-right, invariant-phases}
 use Rattle.turn.proofs.Zero.{exact-zero}
 use Rattle.turn.proofs.Differences.{differences-column}
-use Rattle.turn.specs.Apart.{Apart}
+use Rattle.turn.specs.Apart.{Apart, flipped, Even}
 use Rattle.turn.proofs.Beams.{same-length, beams-turned}
-use Rattle.turn.specs.Apart.{flipped, Even}
 use Rattle.turn.proofs.Opposites.{opposites-invariant}
 
 phases-differences : (xs ys : List ℕ) → map phase (differences xs ys) ≡ differences xs ys

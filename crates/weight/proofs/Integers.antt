@@ -5,8 +5,8 @@ use Prim.Native.Nat.{ℕ, zero, suc, _+_, _-_, _*_, _≤_, _<_}
 use native.Mathlib.Nat.{le-refl, mul-zero}
 use native.Mathlib.Omega.{arith}
 use lib.Dec.{T, eqb, eqb→eq, ltb, ltb→lt}
-use lib.IntN.{ℤ, pos, negsuc, negℤ, natAbs, subℕ, _+ℤ_, _-ℤ_, _*ℤ_, sucℤ-*ℤ, zero-*ℤ, *ℤ-comm, +ℤ-assoc, +ℤ-comm, +ℤ-idl}
-use lib.IntN.{+ℤ-idr, -ℤ-+ℤ-cancel, negℤ-+ℤ, negℤ-negℤ}
+use lib.IntN.{ℤ, pos, negsuc, negℤ, natAbs, subℕ, _+ℤ_, _-ℤ_, _*ℤ_, sucℤ-*ℤ, zero-*ℤ, *ℤ-comm, +ℤ-assoc, +ℤ-comm}
+use lib.IntN.{+ℤ-idl, +ℤ-idr, -ℤ-+ℤ-cancel, negℤ-+ℤ, negℤ-negℤ}
 
 -- ---- equality, as a test
 

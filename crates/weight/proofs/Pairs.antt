@@ -11,8 +11,7 @@ use Rattle.ground.proofs.Lists.{map-at}
 use Rattle.turn.proofs.Lists.{length-steps}
 use Rattle.turn.proofs.Entries.{steps-entry}
 use Rattle.weight.specs.declared.Weight.{Weight}
-use Rattle.weight.specs.Table.{firstQuarter, firstHalf, xs, ys, table, none, weight, sampled}
-use Rattle.weight.specs.Table.{numbers, pairs}
+use Rattle.weight.specs.Table.{firstQuarter, firstHalf, xs, ys, table, none, weight, sampled, numbers, pairs}
 
 pub one-weight : {v w : Weight} → v .x ≡ w .x → v .y ≡ w .y → v ≡ w
 one-weight p q = λ i. record { x = p i; y = q i }

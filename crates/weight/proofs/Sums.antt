@@ -8,11 +8,9 @@ use lib.IntN.{ℤ, pos, negℤ, _+ℤ_, _-ℤ_, +ℤ-invr}
 use Rattle.turn.specs.Phase.{turn, half, third, phase}
 use Rattle.ground.specs.Lists.{All, all-nil, all-cons}
 use Rattle.ground.proofs.All.{all-each}
-use Rattle.turn.specs.Cancel.{total}
+use Rattle.turn.specs.Cancel.{total, Invariant, Cancels, opposites, thirds}
 use Rattle.turn.proofs.Totals.{total-cong}
-use Rattle.turn.specs.Cancel.{Invariant}
 use Rattle.turn.proofs.Invariant.{invariant-add}
-use Rattle.turn.specs.Cancel.{Cancels, opposites, thirds}
 use Rattle.weight.specs.declared.Weight.{Weight}
 use Rattle.weight.specs.Products.{turned}
 use Rattle.weight.proofs.Integers.{above, below, above-neg, parts, add-parts, zero-parts}
