@@ -13,27 +13,18 @@ pub length-column : (xs ys : List ℕ) → length (column xs ys) ≡ length xs *
 unfolding column
 length-column xs ys = length-map (product xs ys) phase ∙ length-product xs ys
 
--- the first block, and the others
-column-cons : (x : ℕ) (xs ys : List ℕ) → column (x ∷ xs) ys ≡ map phase (map (λ y. x + y) ys) ++ column xs ys
-unfolding column product
-column-cons x xs ys = map-append phase (map (λ y. x + y) ys) (product xs ys)
-
 -- the blocks of two lists of co-phases, one after the other
 pub column-append : (xs xs′ ys : List ℕ) → column (xs ++ xs′) ys ≡ column xs ys ++ column xs′ ys
 unfolding column product
 column-append [] xs′ ys = refl
-column-append (x ∷ xs) xs′ ys =
-    column-cons x (xs ++ xs′) ys
-    ∙ ap (λ (l : List ℕ). map phase (map (λ y. x + y) ys) ++ l) (column-append xs xs′ ys)
-    ∙ sym (append-assoc (map phase (map (λ y. x + y) ys)) (column xs ys) (column xs′ ys))
-    ∙ ap (λ (l : List ℕ). l ++ column xs′ ys) (sym (column-cons x xs ys))
+column-append (x ∷ xs) xs′ ys = simp map-append (rw (column-append xs xs′ ys, append-assoc))
 
 -- co-phases may be reduced first
 column-phases : (xs ys : List ℕ) → column (map phase xs) ys ≡ column xs ys
 unfolding column product
 column-phases [] ys = refl
 column-phases (x ∷ xs) ys =
-    column-cons (phase x) (map phase xs) ys ∙ ap₂ _++_ (block ys) (column-phases xs ys) ∙ sym (column-cons x xs ys)
+    simp map-append (ap₂ _++_ (block ys) (column-phases xs ys))
   where
     block : (ys : List ℕ) → map phase (map (λ y. phase x + y) ys) ≡ map phase (map (λ y. x + y) ys)
     block [] = refl

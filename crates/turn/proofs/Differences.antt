@@ -1,8 +1,7 @@
 -- The differences of two columns are a product again, of the differences of their factors.
 use mathlib.Core.Path.{_≡_, refl, sym, ap, ap₂, _∙_}
 use mathlib.Core.List.{List, [], _∷_, _++_, map}
-use Prim.Native.Nat.{ℕ, zero, suc, _+_, _*_, _/_, _%_}
-use native.Mathlib.Nat.{div-add-mod}
+use Prim.Native.Nat.{ℕ, zero, suc, _+_, _*_, _/_}
 use native.Mathlib.Omega.{arith}
 use lib.ListN.{length, length-map}
 use Rattle.turn.specs.Phase.{turn, phase, difference}
@@ -85,12 +84,6 @@ differences-column co co′ b b′ e = differences-phases (product co b) (produc
 
 -- ---- steps
 
-mul-phase : (a x : ℕ) → phase (a * phase x) ≡ phase (a * x)
-mul-phase a x = go (x / turn) (x % turn) (div-add-mod x turn)
-  where
-    go : (q r : ℕ) → turn * q + r ≡ x → phase (a * r) ≡ phase (a * x)
-    go q r e = omega (arith, ap (λ (n : ℕ). a * n) e)
-
 -- steps of s against steps that are g longer
 differences-steps : (n s s′ g : ℕ) → phase s′ ≡ phase (s + g) → differences (steps n s) (steps n s′) ≡ map phase (steps n g)
 unfolding differences steps
@@ -98,11 +91,11 @@ differences-steps zero s s′ g e = refl
 differences-steps (suc n) s s′ g e =
     differences-append (steps n s) (steps n s′) (n * s ∷ []) (n * s′ ∷ []) (length-steps n s ∙ sym (length-steps n s′))
     ∙ ap₂ _++_ (differences-steps n s s′ g e)
-    (ap {B = List ℕ} (λ z. z ∷ []) (difference-by (n * s) (n * s′) (n * g) further))
+    (ap {B = List ℕ} (λ z. z ∷ []) (difference-by (n * s) (n * s′) (n * g) (further ((s + g) / turn) (s′ / turn) (omega arith))))
     ∙ sym (map-append phase (steps n g) (n * g ∷ []))
   where
-    further : phase (n * s′) ≡ phase (n * s + n * g)
-    further = sym (mul-phase n s′) ∙ ap (λ (x : ℕ). phase (n * x)) e ∙ mul-phase n (s + g) ∙ ap phase (omega arith)
+    further : (a b : ℕ) → s′ + turn * a ≡ s + g + turn * b → phase (n * s′) ≡ phase (n * s + n * g)
+    further a b e = omega (arith, ap (λ (x : ℕ). n * x) e)
 
 pub differences-grid : (n1 s s′ g n2 u u′ h : ℕ) → phase s′ ≡ phase (s + g) → phase u′ ≡ phase (u + h)
     → differences (grid n1 s n2 u) (grid n1 s′ n2 u′)

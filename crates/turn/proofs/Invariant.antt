@@ -25,18 +25,22 @@ invariant-same {g} {h} {xs} e p = record {
   turned = λ f s. total-cong (λ x. steady-same s (x + h) (x + g) (omega arith)) xs ∙ p .turned f s;
 }
 
-pub invariant-phases : {g : ℕ} {xs : List ℕ} → Invariant g xs → Invariant g (map phase xs)
-invariant-phases {g} {xs} p = record {
+-- a map that depends on the phase alone and goes with the turn
+invariant-map : {g : ℕ} {xs : List ℕ} (h : ℕ → ℕ) → ((x : ℕ) → phase (h (phase x)) ≡ phase (h x))
+    → ((x : ℕ) → phase (h x + g) ≡ phase (h (x + g))) → Invariant g xs → Invariant g (map h xs)
+invariant-map {g} {xs} h e e′ p = record {
   turned = λ f s.
-      total-map (λ x. f (x + g)) phase xs
-      ∙ total-cong (λ x. steady-shift s g x) xs
-      ∙ p .turned f s
-      ∙ sym (total-map f phase xs ∙ total-cong s xs);
+      total-map (λ x. f (x + g)) h xs
+      ∙ total-cong (λ x. steady-same s (h x + g) (h (x + g)) (e′ x)) xs
+      ∙ p .turned (λ x. f (h x)) (λ x. steady-same s (h (phase x)) (h x) (e x))
+      ∙ sym (total-map f h xs);
 }
 
-pub invariant-nil : {g : ℕ} → Invariant g []
-unfolding total
-invariant-nil = record { turned = λ f s. refl }
+pub invariant-phases : {g : ℕ} {xs : List ℕ} → Invariant g xs → Invariant g (map phase xs)
+invariant-phases = invariant-map phase (omega arith) (omega arith)
+
+pub invariant-shift : {g : ℕ} {ys : List ℕ} (x : ℕ) → Invariant g ys → Invariant g (map (λ y. x + y) ys)
+invariant-shift x = invariant-map (λ y. x + y) (omega arith) (omega arith)
 
 pub invariant-append : {g : ℕ} {xs ys : List ℕ} → Invariant g xs → Invariant g ys → Invariant g (xs ++ ys)
 invariant-append {g} {xs} {ys} p q = record {
@@ -44,21 +48,11 @@ invariant-append {g} {xs} {ys} p q = record {
       total-append (λ x. f (x + g)) xs ys ∙ ap₂ _+_ (p .turned f s) (q .turned f s) ∙ sym (total-append f xs ys);
 }
 
-pub invariant-shift : {g : ℕ} {ys : List ℕ} (x : ℕ) → Invariant g ys → Invariant g (map (λ y. x + y) ys)
-invariant-shift {g} {ys} x p = record {
-  turned = λ f s.
-      total-map (λ z. f (z + g)) (λ y. x + y) ys
-      ∙ total-cong (λ y. ap f (omega arith)) ys
-      ∙ p .turned (λ y. f (y + x)) (steady-shift s x)
-      ∙ total-cong (λ y. ap f (omega arith)) ys
-      ∙ sym (total-map f (λ y. x + y) ys);
-}
-
 -- ---- a product, by either factor
 
 pub invariant-right : {g : ℕ} (xs : List ℕ) {ys : List ℕ} → Invariant g ys → Invariant g (product xs ys)
-unfolding product
-invariant-right [] p = invariant-nil
+unfolding product total
+invariant-right [] p = record { turned = λ f s. refl }
 invariant-right (x ∷ xs) p = invariant-append (invariant-shift x p) (invariant-right xs p)
 
 pub invariant-left : {g : ℕ} {xs : List ℕ} (ys : List ℕ) → Invariant g xs → Invariant g (product xs ys)

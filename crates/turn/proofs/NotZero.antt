@@ -1,15 +1,14 @@
 -- What is not exactly zero: one phase more than a list that is, so any single phase, and any column against itself. No
 -- equation of the rule follows from the others, at any i below a sixth of a turn.
-use mathlib.Core.Path.{_≡_, refl, sym, ap, ap₂, _∙_}
-use mathlib.Core.Logic.{_≢_, _⊎_, inl, inr}
-use mathlib.Core.Bool.{Bool, true, false, cond}
+use mathlib.Core.Path.{_≡_, refl, sym, ap, _∙_}
+use mathlib.Core.Logic.{_≢_}
 use mathlib.Core.List.{List, [], _∷_}
 use Prim.Native.Nat.{ℕ, _+_, _-_, _*_, _%_, _<_}
 use native.Mathlib.Nat.{zero-mul}
 use native.Mathlib.Decide.{decLt, ℕ-discrete}
 use native.Mathlib.Omega.{arith}
 use borrow.Author.Tests.{eq-eqb, ne-eqb}
-use lib.IntN.{pos, negℤ, _+ℤ_, _-ℤ_, +ℤ-assoc, +ℤ-comm, -ℤ-+ℤ-cancel, negℤ-+ℤ, negℤ-negℤ}
+use lib.IntN.{pos, negℤ, _+ℤ_, _-ℤ_, +ℤ-assoc, +ℤ-comm, -ℤ-+ℤ-cancel}
 use lib.ListN.{length}
 use Rattle.turn.specs.Phase.{turn, half, third, sixth, difference}
 use Rattle.turn.specs.Exact.{count, d, ExactZero, differences, Orthogonal}

@@ -1,5 +1,4 @@
--- The total of a function over a list of phases, and functions that depend on the phase of a number alone. Assumes
--- nothing.
+-- The total of a function over a list of phases, and functions that depend on the phase of a number alone.
 use mathlib.Core.Path.{_≡_, refl, sym, ap, ap₂, _∙_}
 use mathlib.Core.List.{List, [], _∷_, _++_, map}
 use Prim.Native.Nat.{ℕ, _+_}

@@ -1,23 +1,22 @@
 -- A list of phases that some turn only permutes sums to exactly zero.
-use mathlib.Core.Path.{_≡_, refl, sym, ap, ap₂, _∙_, subst}
+use mathlib.Core.Path.{_≡_, refl, sym, ap, _∙_, subst}
 use mathlib.Core.Logic.{_⊎_, inl, inr, _≢_}
-use mathlib.Core.Bool.{Bool, true, false, not, cond, _||_}
+use mathlib.Core.Bool.{Bool, false, cond, _||_}
 use mathlib.Core.List.{List, [], _∷_, map}
 use Prim.Native.Nat.{ℕ, zero, suc, _+_, _%_, _<_}
-use native.Mathlib.Nat.{mod-mod, mod-lt, add-zero}
+use native.Mathlib.Nat.{mod-mod, mod-lt}
 use native.Mathlib.Decide.{ℕ-discrete}
 use borrow.Author.Tests.{eq-eqb, ne-eqb}
 use native.Mathlib.Omega.{arith}
-use lib.Dec.{T, eqb, eqb→eq, lit<, T-not}
-use lib.IntN.{ℤ, pos, negℤ, _+ℤ_, _-ℤ_, +ℤ-invr, +ℤ-comm, negℤ-+ℤ, negℤ-negℤ}
+use lib.Dec.{T, eqb, eqb→eq, lit<}
+use lib.IntN.{pos, negℤ, _+ℤ_, _-ℤ_, +ℤ-invr, +ℤ-comm, negℤ-+ℤ, negℤ-negℤ}
 use Rattle.turn.specs.Phase.{turn, half, third, sixth, phase}
-use Rattle.turn.specs.Column.{steps}
 use Rattle.turn.specs.Exact.{count, d, ExactZero}
-use Rattle.ground.proofs.Tests.{or-cases, or-else, eq→eqb, every-at}
+use Rattle.ground.proofs.Tests.{or-cases, or-else, every-at}
 use Rattle.ground.specs.Lists.{every}
 use Rattle.turn.specs.Cancel.{total, Invariant}
 use Rattle.turn.proofs.Totals.{total-cong, total-map}
-use Rattle.turn.proofs.Invariant.{invariant-add, invariant-same, invariant-shift, invariant-steps}
+use Rattle.turn.proofs.Invariant.{invariant-add, invariant-same}
 
 -- ---- counts
 
