@@ -1,6 +1,6 @@
 -- Columns, block by block; co-phases count by their phase alone.
 use mathlib.Core.Path.{_≡_, refl, sym, ap, ap₂, _∙_}
-use mathlib.Core.List.{List, [], _∷_, _++_, map, append-assoc}
+use mathlib.Core.List.{List, [], _∷_, _++_, map, append-assoc, map-map}
 use Prim.Native.Nat.{ℕ, _+_, _*_}
 use native.Mathlib.Nat.{mod-add-mod}
 use lib.ListN.{length, length-map}
@@ -23,12 +23,7 @@ column-append (x ∷ xs) xs′ ys = simp map-append (rw (column-append xs xs′ 
 column-phases : (xs ys : List ℕ) → column (map phase xs) ys ≡ column xs ys
 unfolding column product
 column-phases [] ys = refl
-column-phases (x ∷ xs) ys =
-    simp map-append (ap₂ _++_ (block ys) (column-phases xs ys))
-  where
-    block : (ys : List ℕ) → map phase (map (λ y. phase x + y) ys) ≡ map phase (map (λ y. x + y) ys)
-    block [] = refl
-    block (y ∷ ys) = ap₂ {C = List ℕ} _∷_ (mod-add-mod x turn y) (block ys)
+column-phases (x ∷ xs) ys = simp (map-append, map-map, mod-add-mod, column-phases xs ys)
 
 -- so that co-phases of the same phases give the same column
 pub column-same : (xs xs′ ys : List ℕ) → map phase xs ≡ map phase xs′ → column xs ys ≡ column xs′ ys

@@ -25,14 +25,8 @@ pub difference-back : (x y : ℕ) → phase (x + difference x y) ≡ phase y
 unfolding difference
 difference-back x y = omega arith
 
-add-phases : (x y z w : ℕ) → phase x ≡ phase y → phase z ≡ phase w → phase (x + z) ≡ phase (y + w)
-add-phases x y z w e e′ = omega arith
-
 difference-add : (x a y b : ℕ) → difference (x + a) (y + b) ≡ phase (difference x y + difference a b)
-difference-add x a y b =
-    difference-by (x + a) (y + b) (difference x y + difference a b)
-    (sym (add-phases (x + difference x y) y (a + difference a b) b (difference-back x y) (difference-back a b))
-    ∙ ap phase (omega arith))
+difference-add x a y b = difference-by (x + a) (y + b) _ (omega (arith, difference-back x y, difference-back a b))
 
 -- ---- lists
 
@@ -71,11 +65,9 @@ unfolding differences product
 differences-product [] ys us vs e = refl
 differences-product (x ∷ xs) [] us vs e = differences-nil (product (x ∷ xs) us)
 differences-product (x ∷ xs) (y ∷ ys) us vs e =
-    differences-append (map (λ a. x + a) us) (map (λ b. y + b) vs) (product xs us) (product ys vs)
-    (length-map us _ ∙ e ∙ sym (length-map vs _))
-    ∙ ap₂ _++_ (differences-shift x y us vs) (differences-product xs ys us vs e)
-    ∙ sym
-    (map-append phase (map (λ d. difference x y + d) (differences us vs)) (product (differences xs ys) (differences us vs)))
+    simp map-append
+    (differences-append (map (λ a. x + a) us) (map (λ b. y + b) vs) _ _ (simp length-map e)
+    ∙ ap₂ _++_ (differences-shift x y us vs) (differences-product xs ys us vs e))
 
 pub differences-column : (co co′ b b′ : List ℕ) → length b ≡ length b′
     → differences (column co b) (column co′ b′) ≡ map phase (product (differences co co′) (differences b b′))
@@ -89,10 +81,12 @@ differences-steps : (n s s′ g : ℕ) → phase s′ ≡ phase (s + g) → diff
 unfolding differences steps
 differences-steps zero s s′ g e = refl
 differences-steps (suc n) s s′ g e =
-    differences-append (steps n s) (steps n s′) (n * s ∷ []) (n * s′ ∷ []) (length-steps n s ∙ sym (length-steps n s′))
-    ∙ ap₂ _++_ (differences-steps n s s′ g e)
-    (ap {B = List ℕ} (λ z. z ∷ []) (difference-by (n * s) (n * s′) (n * g) (further ((s + g) / turn) (s′ / turn) (omega arith))))
-    ∙ sym (map-append phase (steps n g) (n * g ∷ []))
+    rw (
+      map-append,
+      differences-append (steps n s) (steps n s′) _ _ (simp length-steps),
+      differences-steps n s s′ g e,
+      difference-by (n * s) (n * s′) (n * g) (further ((s + g) / turn) (s′ / turn) (omega arith)),
+    )
   where
     further : (a b : ℕ) → s′ + turn * a ≡ s + g + turn * b → phase (n * s′) ≡ phase (n * s + n * g)
     further a b e = omega (arith, ap (λ (x : ℕ). n * x) e)

@@ -14,8 +14,7 @@ length-steps (suc n) s = length-append (steps n s) (n * s ∷ []) ∙ omega (ari
 pub length-product : (xs ys : List ℕ) → length (product xs ys) ≡ length xs * length ys
 unfolding product
 length-product [] ys = omega arith
-length-product (x ∷ xs) ys =
-    length-append (map (λ y. x + y) ys) (product xs ys) ∙ omega (arith, length-map ys (λ y. x + y), length-product xs ys)
+length-product (x ∷ xs) ys = simp (length-append, length-map) (omega (arith, length-product xs ys))
 
 pub length-grid : (n1 s n2 u : ℕ) → length (grid n1 s n2 u) ≡ n1 * n2
 unfolding grid

@@ -8,7 +8,7 @@ use native.Mathlib.Nat.{zero-mul}
 use native.Mathlib.Decide.{decLt, ℕ-discrete}
 use native.Mathlib.Omega.{arith}
 use borrow.Author.Tests.{eq-eqb, ne-eqb}
-use lib.IntN.{pos, negℤ, _+ℤ_, _-ℤ_, +ℤ-assoc, +ℤ-comm, -ℤ-+ℤ-cancel}
+use lib.IntN.{pos, negℤ, natAbs, _+ℤ_, _-ℤ_, +ℤ-assoc, +ℤ-comm, -ℤ-+ℤ-cancel}
 use lib.ListN.{length}
 use Rattle.turn.specs.Phase.{turn, half, third, sixth, difference}
 use Rattle.turn.specs.Exact.{count, d, ExactZero, differences, Orthogonal}
@@ -18,16 +18,14 @@ use Rattle.turn.proofs.Zero.{hit, neg-sub}
 
 -- equal differences, without a minus
 pub across : (a b c e : ℕ) → pos a -ℤ pos b ≡ pos c -ℤ pos e → a + e ≡ c + b
-across a b c e p = same (
-    sym (ap (λ z. z +ℤ pos e) (-ℤ-+ℤ-cancel (pos a) (pos b)))
+across a b c e p =
+    ap natAbs
+    (sym (ap (λ z. z +ℤ pos e) (-ℤ-+ℤ-cancel (pos a) (pos b)))
     ∙ ap (λ z. z +ℤ pos b +ℤ pos e) p
     ∙ +ℤ-assoc (pos c -ℤ pos e) (pos b) (pos e)
     ∙ ap (λ z. (pos c -ℤ pos e) +ℤ z) (+ℤ-comm (pos b) (pos e))
     ∙ sym (+ℤ-assoc (pos c -ℤ pos e) (pos e) (pos b))
     ∙ ap (λ z. z +ℤ pos b) (-ℤ-+ℤ-cancel (pos c) (pos e)))
-  where
-    same : pos (a + e) ≡ pos (c + b) → a + e ≡ c + b
-    same q = cc
 
 -- the first equation at i
 pub same-counts : (xs : List ℕ) → ExactZero xs → (i : ℕ) → i < sixth

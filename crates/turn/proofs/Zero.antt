@@ -30,19 +30,19 @@ count-total [] e = refl
 count-total (x ∷ xs) e = ap (λ n. hit x e + n) (count-total xs e)
 
 -- as many are at e + g as at e
-count-turned : {g : ℕ} {xs : List ℕ} → Invariant g xs → (e : ℕ) → e + g < turn
-    → count (map phase xs) (e + g) ≡ count (map phase xs) e
-count-turned {g} {xs} p e h =
-    count-total (map phase xs) (e + g)
-    ∙ total-map (λ x. hit x (e + g)) phase xs
-    ∙ sym (p .turned (λ x. hit (phase x) (e + g)) (λ x. ap (λ y. hit y (e + g)) (mod-mod x turn)))
+count-turned : {g : ℕ} {xs : List ℕ} → Invariant g xs → (e e′ : ℕ) → (e′ ≡ e + g) × (e′ < turn)
+    → count (map phase xs) e ≡ count (map phase xs) e′
+count-turned {g} {xs} p e e′ q =
+    count-total (map phase xs) e
+    ∙ total-map (λ x. hit x e) phase xs
     ∙ total-cong alike xs
-    ∙ sym (count-total (map phase xs) e ∙ total-map (λ x. hit x e) phase xs)
+    ∙ p .turned (λ x. hit (phase x) e′) (λ x. ap (λ y. hit y e′) (mod-mod x turn))
+    ∙ sym (count-total (map phase xs) e′ ∙ total-map (λ x. hit x e′) phase xs)
   where
-    alike : (x : ℕ) → hit (phase (x + g)) (e + g) ≡ hit (phase x) e
+    alike : (x : ℕ) → hit (phase x) e ≡ hit (phase (x + g)) e′
     alike x = elim (ℕ-discrete (phase x) e) [
-      | yes q ↦ rw (eq-eqb (phase (x + g)) (e + g) (omega arith), eq-eqb (phase x) e q)
-      | no n ↦ rw (ne-eqb (phase (x + g)) (e + g) (omega arith), ne-eqb (phase x) e n)
+      | yes r ↦ rw (eq-eqb (phase (x + g)) e′ (omega arith), eq-eqb (phase x) e r)
+      | no n ↦ rw (ne-eqb (phase (x + g)) e′ (omega arith), ne-eqb (phase x) e n)
     ]
 
 -- ---- half a turn, and a third
@@ -58,23 +58,22 @@ zero-by-half {xs} p = record {
 }
   where
     none : (e : ℕ) → e < half → d (map phase xs) e ≡ pos 0
-    none e h = unfold d in rw (count-turned p e (omega arith)) (+ℤ-invr (pos (count (map phase xs) e)))
+    none e h =
+        unfold d in rw (count-turned p e (e + half) (omega arith)) (+ℤ-invr (pos (count (map phase xs) (e + half))))
 
 pub zero-by-third : {xs : List ℕ} → Invariant third xs → ExactZero (map phase xs)
 unfolding d
 zero-by-third {xs} p = record {
-  same = λ i h. rw (on i (third + i) (omega arith), on (i + half) (third + i + half) (omega arith));
+  same = λ i h.
+      rw (count-turned p i (third + i) (omega arith), count-turned p (i + half) (third + i + half) (omega arith));
   opposite = λ i h.
       rw (
-        on (sixth + i) (i + half) (omega arith),
-        on (i + half) (third + i + half) (omega arith),
-        ← on (third + i) (sixth + i + half) (omega arith),
+        count-turned p (sixth + i) (i + half) (omega arith),
+        count-turned p (i + half) (third + i + half) (omega arith),
+        ← count-turned p (third + i) (sixth + i + half) (omega arith),
       )
       (neg-sub (count (map phase xs) (third + i + half)) (count (map phase xs) (third + i)));
 }
-  where
-    on : (e e′ : ℕ) → (e′ ≡ e + third) × (e′ < turn) → count (map phase xs) e ≡ count (map phase xs) e′
-    on e e′ q = rw (q .0) (sym (count-turned p e (omega arith)))
 
 -- ---- any other part of a turn comes to one of the two by doubling
 
