@@ -16,9 +16,8 @@ use Rattle.turn.proofs.Differences.{differences-column}
 use Rattle.turn.proofs.Steps.{gap-multiple}
 use Rattle.turn.specs.Apart.{Apart, Common, flipped, Even}
 use Rattle.turn.proofs.Beams.{same-length, differences-beams, beams-turned}
-use Rattle.turn.proofs.Opposites.{opposites-invariant}
+use Rattle.turn.proofs.Orthogonal.{opposites-invariant, orthogonal-turned, turned-by-beams, turned-by-co-phases}
 use Rattle.turn.proofs.Multiples.{multiples-steps, multiples-product, multiples-phases}
-use Rattle.turn.proofs.Orthogonal.{orthogonal-turned, turned-by-beams, turned-by-co-phases}
 
 -- what cancels is exactly zero
 pub cancels-orthogonal : (xs ys : List ℕ) → Cancels (differences xs ys) → Orthogonal xs ys

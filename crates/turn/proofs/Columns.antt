@@ -1,11 +1,11 @@
 -- Columns, block by block; co-phases count by their phase alone.
-use mathlib.Core.Path.{_≡_, refl, sym, ap, ap₂, _∙_}
+use mathlib.Core.Path.{_≡_, refl, sym, ap, _∙_}
 use mathlib.Core.List.{List, [], _∷_, _++_, map, append-assoc, map-map}
-use Prim.Native.Nat.{ℕ, _+_, _*_}
+use Prim.Native.Nat.{ℕ, _*_}
 use native.Mathlib.Nat.{mod-add-mod}
 use lib.ListN.{length, length-map}
 use Rattle.ground.proofs.Lists.{map-append}
-use Rattle.turn.specs.Phase.{turn, phase}
+use Rattle.turn.specs.Phase.{phase}
 use Rattle.turn.specs.Column.{product, column}
 use Rattle.turn.proofs.Lists.{length-product}
 

@@ -15,8 +15,7 @@ use Rattle.turn.specs.Exact.{count, d, ExactZero}
 use Rattle.ground.proofs.Tests.{or-cases, or-else, every-at}
 use Rattle.ground.specs.Lists.{every}
 use Rattle.turn.specs.Cancel.{total, Invariant}
-use Rattle.turn.proofs.Totals.{total-cong, total-map}
-use Rattle.turn.proofs.Invariant.{invariant-add, invariant-same}
+use Rattle.turn.proofs.Invariant.{total-cong, total-map, invariant-add, invariant-same}
 
 -- ---- counts
 
@@ -33,11 +32,8 @@ count-total (x ∷ xs) e = ap (λ n. hit x e + n) (count-total xs e)
 count-turned : {g : ℕ} {xs : List ℕ} → Invariant g xs → (e e′ : ℕ) → (e′ ≡ e + g) × (e′ < turn)
     → count (map phase xs) e ≡ count (map phase xs) e′
 count-turned {g} {xs} p e e′ q =
-    count-total (map phase xs) e
-    ∙ total-map (λ x. hit x e) phase xs
-    ∙ total-cong alike xs
-    ∙ p .turned (λ x. hit (phase x) e′) (λ x. ap (λ y. hit y e′) (mod-mod x turn))
-    ∙ sym (count-total (map phase xs) e′ ∙ total-map (λ x. hit x e′) phase xs)
+    simp (count-total, total-map)
+    (total-cong alike xs ∙ p .turned (λ x. hit (phase x) e′) (λ x. ap (λ y. hit y e′) (mod-mod x turn)))
   where
     alike : (x : ℕ) → hit (phase x) e ≡ hit (phase (x + g)) e′
     alike x = elim (ℕ-discrete (phase x) e) [

@@ -9,7 +9,7 @@ use Rattle.turn.specs.Phase.{turn, half, third, phase}
 use Rattle.ground.specs.Lists.{All, all-nil, all-cons}
 use Rattle.ground.proofs.All.{all-each}
 use Rattle.turn.specs.Cancel.{total, Invariant, Cancels, opposites, thirds}
-use Rattle.turn.proofs.Totals.{total-cong}
+use Rattle.turn.proofs.Invariant.{total-cong}
 use Rattle.turn.proofs.Invariant.{invariant-add}
 use Rattle.weight.specs.declared.Weight.{Weight}
 use Rattle.weight.specs.Products.{turned}
