@@ -1,5 +1,5 @@
 -- Where no bit that is read is zero, each is one.
-use mathlib.Core.Path.{_≡_, refl, ap, ap₂, _∙_}
+use mathlib.Core.Path.{_≡_, ap, _∙_}
 use mathlib.Core.Logic.{inl, inr}
 use mathlib.Core.Bool.{false}
 use mathlib.Core.List.{List, [], _∷_, map}
@@ -9,6 +9,7 @@ use lib.Dec.{T, eqb, eqb→eq}
 use lib.ListN.{length, getD, replicate}
 use borrow.Author.Tests.{eqb-false}
 use Rattle.ground.specs.Lists.{some, among}
+use Rattle.ground.proofs.Lists.{all-ones, some-false}
 use Rattle.ground.proofs.Booleans.{or-false}
 use Rattle.ground.proofs.Tests.{or-cases}
 use Rattle.plan.specs.Masks.{bitOf, bit, isZero, barred}
@@ -22,11 +23,8 @@ one-bit mask k e =
 
 module _ (mask : List ℕ) where
   pub bits-one : (ks : List ℕ) → barred mask ks ≡ false → map (bit mask) ks ≡ replicate (length ks) 1
-  unfolding barred some
-  bits-one [] e = refl
-  bits-one (k ∷ ks) e =
-      let p = or-false (isZero mask k) (some (isZero mask) ks) e in
-      ap₂ {C = List ℕ} (λ y ys. y ∷ ys) (one-bit mask k (p .0)) (bits-one ks (p .1))
+  unfolding barred
+  bits-one ks e = all-ones (bit mask) ks 0 (λ i h. one-bit mask _ (some-false (isZero mask) ks 0 i e h))
 
   pub bit-one : (ks : List ℕ) (k : ℕ) → T (among k ks) → barred mask ks ≡ false → bit mask k ≡ 1
   unfolding barred some among
