@@ -6,7 +6,7 @@ use mathlib.Core.List.{List, [], _∷_, _++_, map, append-nil, append-assoc}
 use Prim.Native.Nat.{ℕ, zero, suc, _+_, _*_, _<_}
 use native.Mathlib.Nat.{zero-mul, not-suc-le-zero, le-of-suc-le-suc}
 use native.Mathlib.Omega.{arith}
-use lib.Dec.{T, eqb, eqb-refl}
+use lib.Dec.{T, eqb, eqb-refl, eqb→eq}
 use lib.ListN.{length, getD, take, drop, replicate, length-append, List·getD-append}
 use lib.Seq.{getD-append-add, take-at, drop-append-add}
 use Rattle.ground.specs.Lists.{join, some, each, among}
@@ -52,12 +52,13 @@ among-at f (y ∷ xs) x zero h = or-left (eqb (f y) (f y)) _ (eqb-refl (f y))
 among-at f (y ∷ xs) x (suc i) h = or-right (eqb (f (getD xs i x)) (f y)) _ (among-at f xs x i (le-of-suc-le-suc h))
 
 -- where some element passing is excluded, none passes
-pub some-false : {A : Type 0} (test : A → Bool) (xs : List A) (x : A) (i : ℕ) → some test xs ≡ false → i < length xs
-    → test (getD xs i x) ≡ false
-unfolding some
-some-false test [] x i e h = absurd (not-suc-le-zero h)
-some-false test (y ∷ xs) x zero e h = or-false (test y) (some test xs) e .0
-some-false test (y ∷ xs) x (suc i) e h = some-false test xs x i (or-false (test y) (some test xs) e .1) (le-of-suc-le-suc h)
+pub some-false : (test : ℕ → Bool) (xs : List ℕ) (k : ℕ) → some test xs ≡ false → T (among k xs) → test k ≡ false
+unfolding some among
+some-false test [] k e t = absurd t
+some-false test (x ∷ xs) k e t = elim (or-cases (eqb k x) (among k xs) t) [
+  | inl q ↦ ap test (eqb→eq k x q) ∙ or-false (test x) (some test xs) e .0
+  | inr q ↦ some-false test xs k (or-false (test x) (some test xs) e .1) q
+]
 
 -- What is told of each element, and carries over from an element that is found to what was looked for, holds of that.
 pub at-some : {A : Type 0} (P : Type 0) (found test : A → Bool) → ((x : A) → T (found x) → T (test x) → P)

@@ -2,14 +2,15 @@
 use mathlib.Core.Path.{_≡_, refl, sym, ap, _∙_, subst}
 use mathlib.Core.Bool.{false}
 use mathlib.Core.List.{List, _++_, map}
-use Prim.Native.Nat.{ℕ, _*_, _<_, _≤_}
+use Prim.Native.Nat.{ℕ, _*_, _/_, _%_, _<_, _≤_}
 use native.Mathlib.Omega.{arith}
 use lib.Dec.{T, eqb}
 use lib.IntN.{ℤ}
 use lib.ListN.{length, drop, getD, length-map, List·getD-append}
-use borrow.Author.Tests.{ltb-false, ne-eqb}
+use borrow.Author.Tests.{ltb-false, eqb-false, ne-eqb}
+use Rattle.ground.specs.Lists.{among}
 use Rattle.ground.specs.First.{part, None}
-use Rattle.ground.proofs.Lists.{map-at, drop-map, take-map}
+use Rattle.ground.proofs.Lists.{map-at, drop-map, take-map, some-false}
 use Rattle.ground.proofs.First.{first-none, among-part}
 use Rattle.weight.specs.declared.Weight.{Weight}
 use Rattle.weight.specs.Table.{none, weight, pairs}
@@ -20,7 +21,7 @@ use Rattle.weight.proofs.Powers.{port-within}
 use Rattle.plan.specs.declared.Record.{Record}
 use Rattle.plan.specs.Plan.{layerAt, columnOf, matrix, layer}
 use Rattle.plan.specs.Sound.{Sound}
-use Rattle.plan.specs.Masks.{barred}
+use Rattle.plan.specs.Masks.{bitOf, bit, isZero, barred}
 use Rattle.plan.specs.Answer.{Asked, Codebook, asked, own, early, test, refusal, Called, Phases, weightsOf}
 use Rattle.plan.specs.Answer.{Weights}
 use Rattle.plan.specs.Lawful.{Lawful}
@@ -74,9 +75,13 @@ module _ {R : Type 0} (b : Codebook R) {InRange : R → Type 0} (lawful : Lawful
     unfolding test
     fits = ltb-false room (v * P) (none-of .at 11 (lawful .last-two .1))
 
-    pub open-bits : barred mask (b .bitsRead r) ≡ false
-    unfolding test
-    open-bits = none-of .at 10 (lawful .last-two .0)
+    -- every bit that is read is one
+    pub read-one : (k : ℕ) → T (among k (b .bitsRead r)) → bit mask k ≡ 1
+    unfolding test barred isZero bit
+    read-one k t =
+        let e = some-false (isZero mask) (b .bitsRead r) k (none-of .at 10 (lawful .last-two .0)) t in
+        let z = eqb-false (bitOf (getD mask (k / 8) 0) (k % 8)) 0 e in
+        omega arith
 
   -- ---- an accepted call of `phases`
 

@@ -1,11 +1,11 @@
 -- Every lawful codebook answers for the demands.
 use mathlib.Core.Path.{_≡_, refl, sym, ap, _∙_, subst₂}
-use mathlib.Core.List.{List}
+use mathlib.Core.List.{List, map-id}
 use Prim.Native.Nat.{ℕ, _+_, _*_}
 use native.Mathlib.Omega.{arith}
 use lib.ListN.{replicate}
 use Rattle.ground.proofs.First.{first-of, none-zero}
-use Rattle.ground.proofs.Lists.{all-ones}
+use Rattle.ground.proofs.Lists.{all-ones, among-at}
 use Rattle.turn.specs.Exact.{Orthogonal}
 use Rattle.turn.proofs.Cancel.{cancels-orthogonal}
 use Rattle.weight.proofs.Rules.{power-lowest, power-highest}
@@ -15,7 +15,6 @@ use Rattle.plan.specs.Answer.{Codebook, refusal}
 use Rattle.plan.specs.Lawful.{Lawful}
 use Rattle.plan.specs.Demands.{Demanded}
 use Rattle.plan.proofs.Answers.{number-given, one-answer, as-refused, as-accepted}
-use Rattle.plan.proofs.Bits.{bits-one, bit-one}
 use Rattle.plan.proofs.Matrix as plans
 use Rattle.plan.proofs.Calls as calls
 
@@ -38,13 +37,14 @@ demanded b order same lawful r mask ranks = record {
   accepted-exactly = λ room call.
       rw (← same)
       (calls.none-of b lawful r mask ranks room call, λ n. number-given refl call ∙ none-zero _ (b .order) n);
-  bits-read-are-one = λ room call e. bits-one mask (b .bitsRead r) (calls.open-bits b lawful r mask ranks room call e);
+  bits-read-are-one = λ room call e.
+      all-ones (bit mask) (b .bitsRead r) 0
+      (λ i h. calls.read-one b lawful r mask ranks room call e _ (rw map-id at (among-at (λ k. k) (b .bitsRead r) 0 i h)));
   layers-not-barred = λ room call e h.
       let range = calls.in-range b lawful r mask ranks room call e in
       let many = lawful .sound r range .many in
-      let open-bits = calls.open-bits b lawful r mask ranks room call e in
       all-ones (λ (x : Layer). bit mask (b .width r * x .l + x .m)) (b .plan r .layers) past
-      (λ j k. bit-one mask (b .bitsRead r) _ (lawful .reads r range h j (omega (arith, many))) open-bits)
+      (λ j k. calls.read-one b lawful r mask ranks room call e _ (lawful .reads r range h j (omega (arith, many))))
       ∙ ap (λ (n : ℕ). replicate n 1) many;
   accepted-as-weights = λ call e.
       let long = calls.length-weights b lawful r mask ranks call e in
