@@ -4,24 +4,10 @@ use mathlib.Core.Bool.{Bool, true, false, cond}
 use Prim.Native.Nat.{ℕ, zero, suc, _+_, _-_, _*_, _≤_, _<_}
 use native.Mathlib.Nat.{le-refl, mul-zero}
 use native.Mathlib.Omega.{arith}
-use lib.Dec.{T, eqb, eqb→eq, ltb, ltb→lt}
+use lib.Dec.{T, ltb, ltb→lt}
+use Rattle.turn.proofs.NotZero.{across}
 use lib.IntN.{ℤ, pos, negsuc, negℤ, natAbs, subℕ, _+ℤ_, _-ℤ_, _*ℤ_, sucℤ-*ℤ, zero-*ℤ, *ℤ-comm, +ℤ-assoc, +ℤ-comm}
-use lib.IntN.{+ℤ-idl, +ℤ-idr, -ℤ-+ℤ-cancel, negℤ-+ℤ, negℤ-negℤ}
-
--- ---- equality, as a test
-
-unfoldable pub eqZ : ℤ → ℤ → Bool
-eqZ (pos a) (pos b) = eqb a b
-eqZ (pos a) (negsuc b) = false
-eqZ (negsuc a) (pos b) = false
-eqZ (negsuc a) (negsuc b) = eqb a b
-
-pub eqZ→eq : (a b : ℤ) → T (eqZ a b) → a ≡ b
-unfolding eqZ
-eqZ→eq (pos a) (pos b) t = ap pos (eqb→eq a b t)
-eqZ→eq (pos a) (negsuc b) t = absurd t
-eqZ→eq (negsuc a) (pos b) t = absurd t
-eqZ→eq (negsuc a) (negsuc b) t = ap negsuc (eqb→eq a b t)
+use lib.IntN.{+ℤ-idl, +ℤ-idr, negℤ-+ℤ, negℤ-negℤ}
 
 -- ---- signs and sizes
 
@@ -98,17 +84,11 @@ pub add-parts : (a b c d : ℕ) → (pos a -ℤ pos b) +ℤ (pos c -ℤ pos d) �
 add-parts a b c d =
     interchange (pos a) (negℤ (pos b)) (pos c) (negℤ (pos d)) ∙ ap (λ z. pos (a + c) +ℤ z) (sym (negℤ-+ℤ (pos b) (pos d)))
 
-no-difference : (a b : ℕ) → pos a -ℤ pos b ≡ pos 0 → a ≡ b
-no-difference a b e = same (sym (-ℤ-+ℤ-cancel (pos a) (pos b)) ∙ ap (λ z. z +ℤ pos b) e ∙ +ℤ-idl (pos b))
-  where
-    same : pos a ≡ pos b → a ≡ b
-    same p = cc
-
 -- three integers that sum to zero
 pub zero-parts : (u v w : ℤ) → u +ℤ v +ℤ w ≡ pos 0 → above u + above v + above w ≡ below u + below v + below w
 zero-parts u v w e =
-    no-difference (above u + above v + above w) (below u + below v + below w)
+    omega (arith, across (above u + above v + above w) (below u + below v + below w) 0 0
     (sym (add-parts (above u + above v) (below u + below v) (above w) (below w))
     ∙ ap (λ z. z +ℤ (pos (above w) -ℤ pos (below w))) (sym (add-parts (above u) (below u) (above v) (below v)))
     ∙ ap₂ _+ℤ_ (ap₂ _+ℤ_ (sym (parts u)) (sym (parts v))) (sym (parts w))
-    ∙ e)
+    ∙ e))

@@ -1,52 +1,42 @@
 -- conjugate(weight e) times weight g is near radius times the weight at g - e: tested on a quarter of a turn by a
 -- quarter, and carried everywhere by the quarter rule.
 use mathlib.Core.Path.{_≡_, refl, sym, ap, _∙_, subst, subst₃}
-use mathlib.Core.Bool.{Bool, true, false, _&&_}
-use mathlib.Core.List.{List, [], _∷_, zipWith}
+use mathlib.Core.Bool.{Bool, _&&_}
+use mathlib.Core.List.{zipWith}
 use Prim.Native.Nat.{ℕ, zero, suc, _+_, _*_, _%_, _/_, _<_, _≤_}
-use native.Mathlib.Nat.{not-suc-le-zero, le-of-suc-le-suc, mod-lt, div-add-mod}
+use native.Mathlib.Nat.{mod-lt, div-add-mod}
 use native.Mathlib.Omega.{arith}
 use lib.Dec.{T, leb, lit<}
 use lib.IntN.{ℤ, pos, negℤ, natAbs, _+ℤ_, _-ℤ_, _*ℤ_, negℤ-negℤ, negℤ-+ℤ, +ℤ-comm}
-use lib.ListN.{getD, drop}
-use lib.Seq.{getD-drop}
 use Rattle.turn.specs.Phase.{quarter, phase, difference}
-use Rattle.ground.proofs.Tests.{and-left, and-right, two-le, every-at}
+use Rattle.ground.proofs.Tests.{two-le, every-at}
 use Rattle.ground.specs.Lists.{every}
 use Rattle.turn.proofs.Differences.{difference-back}
 use Rattle.weight.specs.declared.Weight.{Weight}
-use Rattle.weight.specs.Table.{radius, firstQuarter, firstHalf, xs, ys, table, none, weight}
+use Rattle.weight.specs.Table.{radius, firstQuarter, firstHalf, xs, ys, table, weight}
 use Rattle.weight.specs.Products.{turned, re, im, off, Near, limit, productOff}
 use Rattle.weight.proofs.Integers.{mul-neg, neg-mul, size-neg}
 use Rattle.weight.proofs.Rules.{weight-same, quarter-more}
 
--- ---- the test, along the table and along the table from d on
-
--- the test passes at the first n places of two lists
-walk : ℕ → (Weight → Weight → Bool) → List Weight → List Weight → Bool
-walk zero f vs ws = true
-walk (suc n) f [] ws = false
-walk (suc n) f (v ∷ vs) [] = false
-walk (suc n) f (v ∷ vs) (w ∷ ws) = f v w && walk n f vs ws
-
-walk-at : (n : ℕ) (f : Weight → Weight → Bool) (vs ws : List Weight) → T (walk n f vs ws) → (k : ℕ) → k < n
-    → T (f (getD vs k none) (getD ws k none))
-unfolding walk
-walk-at zero f vs ws t k h = absurd (not-suc-le-zero h)
-walk-at (suc n) f [] ws t k h = absurd t
-walk-at (suc n) f (v ∷ vs) [] t k h = absurd t
-walk-at (suc n) f (v ∷ vs) (w ∷ ws) t zero h = and-left (f v w) (walk n f vs ws) t
-walk-at (suc n) f (v ∷ vs) (w ∷ ws) t (suc k) h =
-    walk-at n f vs ws (and-right (f v w) (walk n f vs ws) t) k (le-of-suc-le-suc h)
+-- ---- the test
 
 near? : Weight → Weight → Weight → Bool
 near? w a g = leb (off (re a g) (w .x)) productOff && leb (off (im a g) (w .y)) productOff
 
+near-yes : (w a g : Weight) → T (near? w a g) → Near productOff w a g
+unfolding near?
+near-yes w a g t =
+    let p = two-le (off (re a g) (w .x)) productOff (off (im a g) (w .y)) productOff t in
+    record { x = p .0; y = p .1 }
+
+abbrev pair? : ℕ → ℕ → Bool
+pair? d e = near? (weight d) (weight e) (weight (d + e))
+
 row? : ℕ → Bool
-row? d = walk quarter (near? (weight d)) table (drop d table)
+row? d = every quarter (pair? d)
 
 rows : T (every quarter row?)
-unfolding every row? walk near? weight table zipWith xs ys firstHalf firstQuarter
+unfolding every row? near? weight table zipWith xs ys firstHalf firstQuarter
 rows = tt
 
 -- ---- what holds of a product holds of it with one factor or both a quarter further
@@ -84,25 +74,8 @@ Holds : ℕ → ℕ → Type 0
 Holds d e = Near productOff (weight d) (weight e) (weight (d + e))
 
 first : (d e : ℕ) → d < quarter → e < quarter → Holds d e
-unfolding Holds row? near? weight
-first d e h k =
-    let small : phase e ≡ e = omega arith in
-    let sum : phase (d + e) ≡ d + e = omega arith in
-    rw (small, sum, ← getD-drop d table e none) (record { x = t .0; y = t .1 })
-  where
-    w : Weight
-    w = weight d
-
-    a : Weight
-    a = getD table e none
-
-    g : Weight
-    g = getD (drop d table) e none
-
-    t : (off (re a g) (w .x) ≤ productOff) × (off (im a g) (w .y) ≤ productOff)
-    t =
-        two-le (off (re a g) (w .x)) productOff (off (im a g) (w .y)) productOff
-        (walk-at quarter (near? w) table (drop d table) (every-at quarter row? rows d h) e k)
+unfolding Holds row?
+first d e h k = near-yes _ _ _ (every-at quarter (pair? d) (every-at quarter row? rows d h) e k)
 
 -- what holds below a quarter, and a quarter further wherever it holds, holds everywhere
 climb : (P : ℕ → Type 0) → ((k : ℕ) → k < quarter → P k) → ((k : ℕ) → P k → P (k + quarter)) → (k : ℕ) → P k
