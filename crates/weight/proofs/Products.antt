@@ -44,19 +44,10 @@ rows = tt
 on-re : (k ax ay gx gy wy : ℤ) → ax *ℤ negℤ gy +ℤ ay *ℤ gx -ℤ k *ℤ negℤ wy ≡ negℤ (ax *ℤ gy -ℤ ay *ℤ gx -ℤ k *ℤ wy)
 on-re k ax ay gx gy wy = simp (mul-neg, negℤ-+ℤ, negℤ-negℤ)
 
-on-im : (ax ay gx gy : ℤ) → ax *ℤ gx -ℤ ay *ℤ negℤ gy ≡ ax *ℤ gx +ℤ ay *ℤ gy
-on-im ax ay gx gy = simp (mul-neg, negℤ-negℤ)
-
-both-re : (ax ay gx gy : ℤ) → negℤ ay *ℤ negℤ gy +ℤ ax *ℤ gx ≡ ax *ℤ gx +ℤ ay *ℤ gy
-both-re ax ay gx gy = simp (mul-neg, neg-mul, negℤ-negℤ) (+ℤ-comm (ay *ℤ gy) (ax *ℤ gx))
-
-both-im : (ax ay gx gy : ℤ) → negℤ ay *ℤ gx -ℤ ax *ℤ negℤ gy ≡ ax *ℤ gy -ℤ ay *ℤ gx
-both-im ax ay gx gy = simp (mul-neg, neg-mul, negℤ-negℤ) (+ℤ-comm (negℤ (ay *ℤ gx)) (ax *ℤ gy))
-
 near-second : {n : ℕ} (w a g : Weight) → Near n w a g → Near n (turned w) a (turned g)
 near-second {n} w a g p = record {
   x = subst (λ (m : ℕ). m ≤ n) (sym turned-x) (p .y);
-  y = subst (λ (z : ℤ). off z (w .x) ≤ n) (sym (on-im (a .x) (a .y) (g .x) (g .y))) (p .x);
+  y = simp (mul-neg, negℤ-negℤ) (p .x);
 }
   where
     turned-x : off (re a (turned g)) (turned w .x) ≡ off (im a g) (w .y)
@@ -64,8 +55,8 @@ near-second {n} w a g p = record {
 
 near-both : {n : ℕ} (w a g : Weight) → Near n w a g → Near n w (turned a) (turned g)
 near-both {n} w a g p = record {
-  x = subst (λ (z : ℤ). off z (w .x) ≤ n) (sym (both-re (a .x) (a .y) (g .x) (g .y))) (p .x);
-  y = subst (λ (z : ℤ). off z (w .y) ≤ n) (sym (both-im (a .x) (a .y) (g .x) (g .y))) (p .y);
+  x = simp (mul-neg, neg-mul, negℤ-negℤ) (rw (+ℤ-comm (a .y *ℤ g .y) (a .x *ℤ g .x)) (p .x));
+  y = rw (neg-mul (a .y), mul-neg (a .x), negℤ-negℤ, +ℤ-comm (negℤ (a .y *ℤ g .x)) (a .x *ℤ g .y)) (p .y);
 }
 
 -- ---- everywhere: conjugate(weight e) times weight (d + e), against weight d
