@@ -16,8 +16,7 @@ use Rattle.weight.specs.declared.Weight.{Weight}
 use Rattle.weight.specs.Table.{none, weight, pairs}
 use Rattle.weight.specs.Products.{power, Within, fullPower, powerBelow, powerAbove, portPower}
 use Rattle.weight.proofs.Pairs.{length-numbers, pairs-numbers}
-use Rattle.weight.proofs.Rules.{power-tight}
-use Rattle.weight.proofs.Powers.{port-within}
+use Rattle.weight.proofs.Rules.{power-tight, port-within}
 use Rattle.plan.specs.declared.Record.{Record}
 use Rattle.plan.specs.Plan.{layerAt, columnOf, matrix, layer}
 use Rattle.plan.specs.Sound.{Sound}

@@ -1,12 +1,12 @@
 -- Two columns whose differences cancel have a small cross-sum in 16-bit weights: port by port the product is near
 -- radius times the weight at the difference, and these weights sum to zero.
-use mathlib.Core.Path.{_≡_, sym, ap, _∙_, subst, refl, ap₂}
+use mathlib.Core.Path.{_≡_, sym, ap, _∙_, refl, ap₂}
 use mathlib.Core.List.{List, [], _∷_, map}
-use Prim.Native.Nat.{ℕ, suc, _*_, _≤_, zero-le, _+_}
+use Prim.Native.Nat.{ℕ, _*_, _≤_, _+_}
 use native.Mathlib.Nat.{le-trans}
 use native.Mathlib.Omega.{arith}
 use lib.ListN.{length}
-use lib.IntN.{ℤ, pos, natAbs, _+ℤ_, _-ℤ_, _*ℤ_, *ℤ-zero, +ℤ-idr, negℤ, +ℤ-invr}
+use lib.IntN.{ℤ, pos, natAbs, _+ℤ_, _-ℤ_, _*ℤ_, +ℤ-idr, negℤ, +ℤ-invr}
 use Rattle.turn.specs.Phase.{difference, half, third}
 use Rattle.turn.specs.Exact.{differences}
 use Rattle.turn.specs.Cancel.{Cancels, total, Invariant, opposites, thirds}
@@ -34,8 +34,7 @@ sum-parts f (e ∷ es) =
     ∙ add-parts (above (f e)) (below (f e)) (total (λ g. above (f g)) es) (total (λ g. below (f g)) es)
 
 sum-zero : (f : ℕ → ℤ) (es : List ℕ) → total (λ e. above (f e)) es ≡ total (λ e. below (f e)) es → sum f es ≡ pos 0
-sum-zero f es e =
-    sum-parts f es ∙ rw e (+ℤ-invr (pos (total (λ e. below (f e)) es)))
+sum-zero f es e = sum-parts f es ∙ rw e (+ℤ-invr (pos (total (λ e. below (f e)) es)))
 
 -- ---- opposites and thirds, for a function of a phase
 
@@ -53,8 +52,7 @@ module _ (part : Weight → ℤ) where
   unfolding below
   sum-opposites opposite {es} p =
       sum-zero f es
-      (sym (same-total above p)
-      ∙ total-cong (λ e. ap above (ap part (half-more e) ∙ opposite (weight e))) es)
+      (sym (same-total above p) ∙ total-cong (λ e. ap above (ap part (half-more e) ∙ opposite (weight e))) es)
 
   -- each weight with the two a third and two thirds on, added up
   three-totals : {es : List ℕ} → All (Balanced part) es
@@ -89,29 +87,19 @@ between part es gs = cross part (map weight es) (map weight gs)
 -- a part of the product, and the same part of a weight
 module _ (part : Weight → Weight → ℤ) (f : ℕ → ℤ)
     (near : (e g : ℕ) → off (part (weight e) (weight g)) (f (difference e g)) ≤ limit) where
-  none-off : (n : ℕ) → off (pos 0) (pos 0) ≤ n
-  none-off n = subst (λ (z : ℤ). natAbs (pos 0 -ℤ z) ≤ n) (sym (*ℤ-zero (pos radius))) zero-le
-
   cross-near : (es gs : List ℕ) → off (between part es gs) (sum f (differences es gs)) ≤ limit * length es
   unfolding cross sum differences
-  cross-near [] gs = none-off (limit * 0)
-  cross-near (e ∷ es) [] = none-off (limit * suc (length es))
+  cross-near [] gs = omega arith
+  cross-near (e ∷ es) [] = omega arith
   cross-near (e ∷ es) (g ∷ gs) =
-      let p : ℤ = part (weight e) (weight g) in
-      let s : ℤ = sum f (differences es gs) in
-      subst (λ (z : ℤ). natAbs z ≤ limit * suc (length es))
-      (sym (ap (λ (z : ℤ). (p +ℤ between part es gs) -ℤ z) (mul-sum radius (f (difference e g)) s)
-      ∙ sub-sums p (between part es gs) (pos radius *ℤ f (difference e g)) (pos radius *ℤ s)))
-      (le-trans (size-add (p -ℤ pos radius *ℤ f (difference e g)) (between part es gs -ℤ pos radius *ℤ s))
+      let s = sum f (differences es gs) in
+      rw (mul-sum radius (f (difference e g)) s, sub-sums)
+      (le-trans
+      (size-add (part (weight e) (weight g) -ℤ pos radius *ℤ f (difference e g)) (between part es gs -ℤ pos radius *ℤ s))
       (omega (arith, near e g, cross-near es gs)))
 
   cross-small : (es gs : List ℕ) → sum f (differences es gs) ≡ pos 0 → natAbs (between part es gs) ≤ limit * length es
-  cross-small es gs z =
-      subst (λ (v : ℤ). natAbs v ≤ limit * length es)
-      (ap (λ (s : ℤ). between part es gs -ℤ pos radius *ℤ s) z
-      ∙ ap (λ (v : ℤ). between part es gs -ℤ v) (*ℤ-zero (pos radius))
-      ∙ +ℤ-idr (between part es gs))
-      (cross-near es gs)
+  cross-small es gs z = rw (z, +ℤ-idr) at (cross-near es gs)
 
 pub cross-bound : (es gs : List ℕ) → Cancels (differences es gs)
     → (natAbs (between re es gs) ≤ limit * length es) × (natAbs (between im es gs) ≤ limit * length es)

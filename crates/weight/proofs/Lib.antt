@@ -6,5 +6,4 @@ pub mod Rules
 pub mod Nearest
 pub mod Products
 pub mod CrossSum
-pub mod Powers
 pub mod Examples

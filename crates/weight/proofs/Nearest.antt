@@ -4,11 +4,11 @@ use mathlib.Core.Path.{_≡_, refl, ap, _∙_, subst}
 use mathlib.Core.Logic.{_≢_}
 use mathlib.Core.Bool.{Bool, _||_}
 use mathlib.Core.List.{zipWith}
-use Prim.Native.Nat.{ℕ, _+_, _*_, _%_}
+use Prim.Native.Nat.{ℕ, _+_, _*_, _%_, _<_}
 use native.Mathlib.Omega.{arith}
 use lib.Dec.{T, eqb, eqb→eq}
 use lib.IntN.{ℤ, pos, negℤ, _+ℤ_, _-ℤ_, _*ℤ_}
-use lib.Signed.{ltZ, ltZ-yes}
+use lib.Signed.{ltZ, _<ℤ_, ltZ-yes}
 use Rattle.turn.specs.Phase.{turn, third, quarter, sixth, phase}
 use Rattle.ground.proofs.Tests.{or-else, every-at}
 use Rattle.ground.specs.Lists.{every}
@@ -42,6 +42,19 @@ nearest e n =
           (or-else (eqb (phase e % sixth) 0) _ (λ t. n (omega (arith, eqb→eq (phase e % sixth) 0 t)))
           (every-at turn nearest? all-nearest (phase e) (omega arith)));
     })
+
+-- ---- x falls strictly over the first quarter
+
+falls? : ℕ → Bool
+falls? e = ltZ (x (e + 1)) (x e)
+
+all-fall : T (every quarter falls?)
+unfolding every falls? weight table zipWith xs ys firstHalf firstQuarter
+all-fall = tt
+
+pub falls : (e : ℕ) → e < quarter → x (e + 1) <ℤ x e
+unfolding falls?
+falls e h = ltZ-yes (every-at quarter falls? all-fall e h)
 
 -- ---- at a sixth of a turn the cosine is a half, at a third minus a half; `half-more` gives the other three sixths
 

@@ -16,7 +16,7 @@ use Rattle.weight.specs.Table.{firstQuarter, firstHalf, xs, ys, table, n
 pub one-weight : {v w : Weight} → v .x ≡ w .x → v .y ≡ w .y → v ≡ w
 one-weight p q = λ i. record { x = p i; y = q i }
 
--- the first weight has two numbers
+-- where x and y of weight i stand
 pub numbers-x : (ws : List Weight) (z : Weight) (i : ℕ) → getD (numbers ws) (2 * i) (z .x) ≡ getD ws i z .x
 unfolding numbers
 numbers-x [] z i = refl

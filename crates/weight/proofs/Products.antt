@@ -1,13 +1,13 @@
 -- conjugate(weight e) times weight g is near radius times the weight at g - e: tested on a quarter of a turn by a
 -- quarter, and carried everywhere by the quarter rule.
-use mathlib.Core.Path.{_≡_, refl, sym, ap, _∙_, subst, subst₃}
+use mathlib.Core.Path.{_≡_, refl, ap, _∙_, subst}
 use mathlib.Core.Bool.{Bool, _&&_}
 use mathlib.Core.List.{zipWith}
-use Prim.Native.Nat.{ℕ, zero, suc, _+_, _*_, _%_, _/_, _<_, _≤_}
-use native.Mathlib.Nat.{mod-lt, div-add-mod}
+use Prim.Native.Nat.{ℕ, zero, suc, _+_, _*_, _%_, _/_, _<_}
+use native.Mathlib.Nat.{div-add-mod}
 use native.Mathlib.Omega.{arith}
-use lib.Dec.{T, leb, lit<}
-use lib.IntN.{ℤ, pos, negℤ, natAbs, _+ℤ_, _-ℤ_, _*ℤ_, negℤ-negℤ, negℤ-+ℤ, +ℤ-comm}
+use lib.Dec.{T, leb}
+use lib.IntN.{ℤ, pos, negℤ, _+ℤ_, _-ℤ_, _*ℤ_, negℤ-negℤ, negℤ-+ℤ, +ℤ-comm}
 use Rattle.turn.specs.Phase.{quarter, phase, difference}
 use Rattle.ground.proofs.Tests.{two-le, every-at}
 use Rattle.ground.specs.Lists.{every}
@@ -46,12 +46,9 @@ on-re k ax ay gx gy wy = simp (mul-neg, negℤ-+ℤ, negℤ-negℤ)
 
 near-second : {n : ℕ} (w a g : Weight) → Near n w a g → Near n (turned w) a (turned g)
 near-second {n} w a g p = record {
-  x = subst (λ (m : ℕ). m ≤ n) (sym turned-x) (p .y);
+  x = rw (on-re (pos radius) (a .x) (a .y) (g .x) (g .y) (w .y), size-neg) (p .y);
   y = simp (mul-neg, negℤ-negℤ) (p .x);
 }
-  where
-    turned-x : off (re a (turned g)) (turned w .x) ≡ off (im a g) (w .y)
-    turned-x = ap natAbs (on-re (pos radius) (a .x) (a .y) (g .x) (g .y) (w .y)) ∙ size-neg (im a g -ℤ pos radius *ℤ w .y)
 
 near-both : {n : ℕ} (w a g : Weight) → Near n w a g → Near n w (turned a) (turned g)
 near-both {n} w a g p = record {
@@ -73,7 +70,7 @@ climb : (P : ℕ → Type 0) → ((k : ℕ) → k < quarter → P k) → ((k : �
 climb P low on k = subst P (omega (arith, div-add-mod k quarter)) (up (k / quarter))
   where
     up : (q : ℕ) → P (k % quarter + quarter * q)
-    up zero = subst P (omega arith) (low (k % quarter) (mod-lt k (lit< tt)))
+    up zero = subst P (omega arith) (low (k % quarter) (omega arith))
     up (suc q) = subst P (omega arith) (on (k % quarter + quarter * q) (up q))
 
 further : (d e g : ℕ) → g ≡ d + e + quarter → weight g ≡ turned (weight (d + e))
@@ -84,12 +81,8 @@ unfolding Holds
 holds d e =
     climb (λ (k : ℕ). Holds k e)
     (λ k h. climb (λ (m : ℕ). Holds k m) (λ m l. first k m h l)
-    (λ m p.
-    subst₃ (Near productOff) refl (sym (quarter-more m)) (sym (further k m _ (omega arith)))
-    (near-both (weight k) (weight m) (weight (k + m)) p)) e)
-    (λ k p.
-    subst₃ (Near productOff) (sym (quarter-more k)) refl (sym (further k e _ (omega arith)))
-    (near-second (weight k) (weight e) (weight (k + e)) p)) d
+    (λ m p. rw (quarter-more m, further k m (k + (m + quarter)) (omega arith)) (near-both _ _ _ p)) e)
+    (λ k p. rw (quarter-more k, further k e (k + quarter + e) (omega arith)) (near-second _ _ _ p)) d
 
 pub product-tight : (e g : ℕ) → Near productOff (weight (difference e g)) (weight e) (weight g)
 unfolding Holds

@@ -1,22 +1,22 @@
--- The rules of the table, each by one test over the whole of it, which antt computes.
+-- The rules of the table, each compared or tested over the whole of it, which antt computes; and the power of a port.
 use mathlib.Core.Path.{_≡_, refl, sym, ap, _∙_}
 use mathlib.Core.Bool.{Bool, _&&_}
-use mathlib.Core.List.{map, zipWith}
-use Prim.Native.Nat.{ℕ, _+_, _*_, _/_, _%_, _<_}
-use native.Mathlib.Nat.{mod-mod}
+use mathlib.Core.List.{map, zipWith, List}
+use Prim.Native.Nat.{ℕ, _+_, _*_, _/_, _%_, _<_, zero, suc}
+use native.Mathlib.Nat.{mod-mod, suc-mul}
 use native.Mathlib.Omega.{arith}
 use lib.Dec.{T, leb}
 use lib.ListN.{getD}
 use lib.IntN.{ℤ, pos, _+ℤ_}
-use lib.Signed.{ltZ, _<ℤ_, ltZ-yes}
 use Rattle.turn.specs.Phase.{turn, half, quarter, third, twelfth, phase}
 use Rattle.ground.proofs.Tests.{two-le, every-at}
 use Rattle.ground.specs.Lists.{every}
 use Rattle.weight.specs.declared.Weight.{Weight}
 use Rattle.weight.specs.Table.{firstQuarter, firstHalf, xs, ys, table, none, weight}
-use Rattle.weight.specs.Products.{turned, power, Within, fullPower, limit, powerBelow, powerAbove}
+use Rattle.weight.specs.Products.{turned, power, Within, fullPower, limit, powerBelow, powerAbove, portPower}
 use Rattle.turn.specs.Column.{steps}
 use Rattle.weight.proofs.Pairs.{map-steps-at}
+use lib.Arith.{digits-lt}
 
 -- ---- the weight of a number is that of its phase
 
@@ -95,19 +95,6 @@ balanced e h = (
 pub thirds-sum : (x 0 +ℤ x third +ℤ x (third + third) ≡ pos 0) × (y 0 +ℤ y third +ℤ y (third + third) ≡ pos 0)
 thirds-sum = (balanced 0 (omega arith) .0 .zero-sum, balanced 0 (omega arith) .1 .zero-sum)
 
--- ---- x falls strictly over the first quarter
-
-falls? : ℕ → Bool
-falls? e = ltZ (x (e + 1)) (x e)
-
-all-fall : T (every quarter falls?)
-unfolding every falls? weight table zipWith xs ys firstHalf firstQuarter
-all-fall = tt
-
-pub falls : (e : ℕ) → e < quarter → x (e + 1) <ℤ x e
-unfolding falls?
-falls e h = ltZ-yes (every-at quarter falls? all-fall e h)
-
 -- ---- powers
 
 power? : ℕ → Bool
@@ -137,3 +124,17 @@ power-lowest = refl
 pub power-highest : power (weight 9) ≡ fullPower + powerAbove
 unfolding weight table zipWith xs ys firstHalf firstQuarter
 power-highest = refl
+
+-- where each of v times p weights has a power within n below and m above c, a port has one within v times these
+pub port-within : (c n m v p q : ℕ) (ws : List Weight) → q < p
+    → ((i : ℕ) → i < v * p → Within c n m (power (getD ws i none)))
+    → Within (v * c) (v * n) (v * m) (portPower v p q ws)
+unfolding portPower
+port-within c n m zero p q ws h each = record { low = omega arith; high = omega arith }
+port-within c n m (suc v) p q ws h each =
+    let before = port-within c n m v p q ws h (λ i k. each i (omega (arith, suc-mul v p))) in
+    let last = each (v * p + q) (digits-lt (omega arith) h) in
+    record {
+      low = omega (arith, suc-mul v c, suc-mul v n, before .low, last .low);
+      high = omega (arith, suc-mul v c, suc-mul v m, before .high, last .high);
+    }
