@@ -10,7 +10,6 @@ use Rattle.ground.specs.Lists.{among, All, all-nil, all-cons}
 use Rattle.ground.specs.First.{first, numbered, None, FirstOf}
 use Rattle.ground.specs.Unique.{Unique, UniqueLeft}
 use Rattle.ground.specs.Copied.{Copied}
-use Rattle.ground.proofs.All.{all-among}
 use Rattle.ground.proofs.First.{first-none, first-of, first-only}
 
 -- ---- the first number above 5
@@ -58,8 +57,7 @@ all-below = all-cons {x = 3} (omega arith) (all-cons {x = 4} (omega arith) all-n
 
 -- 3, 7 and 9 are not
 pub not-all-below : All (λ x. x < 5) numbers → ⊥
-unfolding among
-not-all-below a = omega (arith, all-among 7 a tt)
+not-all-below (all-cons p (all-cons q a)) = omega arith
 
 -- ---- copies of the first two
 

@@ -66,27 +66,6 @@ module _ (test : ℕ → Bool) where
   none-first [] ys n = refl
   none-first (x ∷ xs) ys n = rw (none-head x xs n) (none-first xs ys (none-tail x xs n))
 
-  -- a number whose test does not hold may be put in anywhere
-  pub first-insert : (xs ys : List ℕ) (k : ℕ) → test k ≡ false → first test (xs ++ (k ∷ ys)) ≡ first test (xs ++ ys)
-  unfolding first
-  first-insert [] ys k e = rw e
-  first-insert (x ∷ xs) ys k e = ap (λ (n : ℕ). cond (test x) x n) (first-insert xs ys k e)
-
-  -- the first of the whole is the first of any part that keeps it
-  pub first-part : (keep : ℕ → Bool) (ks : List ℕ) → keep (first test ks) ≡ true
-      → first test (part keep ks) ≡ first test ks
-  unfolding first part
-  first-part keep [] e = refl
-  first-part keep (k ∷ ks) e = go (test k) refl (keep k) refl e (first-part keep ks)
-    where
-      go : (b : Bool) → test k ≡ b → (a : Bool) → keep k ≡ a → keep (cond b k (first test ks)) ≡ true
-          → (keep (first test ks) ≡ true → first test (part keep ks) ≡ first test ks)
-          → first test (cond a (k ∷ part keep ks) (part keep ks)) ≡ cond b k (first test ks)
-      go true f true g e later = rw f
-      go true f false g e later = absurd (subst T (sym e ∙ g) tt)
-      go false f true g e later = rw f (later e)
-      go false f false g e later = later e
-
   -- a number of which FirstOf tells is that number, so there is no other
   pub first-only : (ks : List ℕ) (k : ℕ) → FirstOf test ks k → first test ks ≡ k
   unfolding first

@@ -16,10 +16,6 @@ use Rattle.ground.proofs.Tests.{and-left, and-right, or-cases, or-left,
 -- ---- lists that are mapped
 
 module _ {A B : Type 0} (f : A → B) where
-  pub map-append : (xs ys : List A) → map f (xs ++ ys) ≡ map f xs ++ map f ys
-  map-append [] ys = refl
-  map-append (x ∷ xs) ys = ap {B = List B} (λ l. f x ∷ l) (map-append xs ys)
-
   -- an element; past the end x and y stand
   pub map-at : (xs : List A) (i : ℕ) (x : A) (y : B) → i < length xs → getD (map f xs) i y ≡ f (getD xs i x)
   map-at [] i x y h = absurd (not-suc-le-zero h)

@@ -1,13 +1,12 @@
 -- The differences of two columns are a product again, of the differences of their factors.
 use mathlib.Core.Path.{_≡_, refl, sym, ap, ap₂, _∙_}
-use mathlib.Core.List.{List, [], _∷_, _++_, map}
+use mathlib.Core.List.{List, [], _∷_, _++_, map, map-append}
 use Prim.Native.Nat.{ℕ, zero, suc, _+_, _*_, _/_}
 use native.Mathlib.Omega.{arith}
 use lib.ListN.{length, length-map}
 use Rattle.turn.specs.Phase.{turn, phase, difference}
 use Rattle.turn.specs.Column.{steps, product, grid, column}
 use Rattle.turn.specs.Exact.{differences}
-use Rattle.ground.proofs.Lists.{map-append}
 use Rattle.turn.proofs.Lists.{length-steps}
 
 -- ---- one port
