@@ -1,7 +1,12 @@
 -- Truth values.
 use mathlib.Core.Path.{_≡_, refl}
 use mathlib.Core.Bool.{Bool, true, false, cond, _&&_, _||_, Bool·beq, true≢false, false≢true}
+use mathlib.Core.Logic.{_⊎_, inl, inr}
 use lib.Dec.{T}
+
+pub truth : (b : Bool) → (b ≡ true) ⊎ (b ≡ false)
+truth true = inl refl
+truth false = inr refl
 
 pub is-false : (b : Bool) → (b ≡ true → ⊥) → false ≡ b
 is-false true h = absurd (h refl)

@@ -1,12 +1,13 @@
 -- The first of a list of numbers whose test holds; what it means that none does; parts of a list.
-use mathlib.Core.Path.{_≡_, refl, sym, ap, ap₂, _∙_, subst}
+use mathlib.Core.Path.{_≡_, refl, ap, ap₂, _∙_}
 use mathlib.Core.Logic.{_≢_, inl, inr}
-use mathlib.Core.Bool.{Bool, true, false, cond, _&&_, _||_}
+use mathlib.Core.Bool.{Bool, true, false, cond, _&&_}
 use mathlib.Core.List.{List, [], _∷_, _++_}
 use Prim.Native.Nat.{ℕ}
 use native.Mathlib.Omega.{arith}
 use lib.Dec.{T, eqb, eqb-refl, ltb, eqb→eq, ltb→lt}
-use Rattle.ground.specs.Lists.{among}
+use Rattle.ground.specs.Lists.{some, among}
+use Rattle.ground.proofs.Booleans.{truth, or-false}
 use Rattle.ground.specs.First.{first, numbered, part, None, FirstOf}
 use Rattle.ground.proofs.Tests.{and-left, and-right, or-cases, or-left, or-right}
 
@@ -42,23 +43,19 @@ module _ (test : ℕ → Bool) where
   pub first-none : (ks : List ℕ) → T (numbered ks) → first test ks ≡ 0 → None test ks
   unfolding first numbered
   first-none [] t e = none-nil
-  first-none (k ∷ ks) t e = go (test k) refl e (first-none ks (and-right (ltb 0 k) (numbered ks) t))
-    where
-      go : (b : Bool) → test k ≡ b → cond b k (first test ks) ≡ 0 → (first test ks ≡ 0 → None test ks) → None test (k ∷ ks)
-      go true f e later = absurd (let z = ltb→lt 0 k (and-left (ltb 0 k) (numbered ks) t) in omega arith)
-      go false f e later = none-cons k ks f (later e)
+  first-none (k ∷ ks) t e = elim (truth (test k)) [
+    | inl f ↦ absurd (let z = ltb→lt 0 k (and-left (ltb 0 k) (numbered ks) t) in omega (arith, rw f at e))
+    | inr f ↦ none-cons k ks f (first-none ks (and-right (ltb 0 k) (numbered ks) t) (rw f at e))
+  ]
 
   -- one that holds in the first part is the first of all
   pub first-stop : (xs ys : List ℕ) → first test xs ≢ 0 → first test (xs ++ ys) ≡ first test xs
   unfolding first
   first-stop [] ys h = absurd (h refl)
-  first-stop (x ∷ xs) ys h = go (test x) h (first-stop xs ys)
-    where
-      go : (b : Bool) → (cond b x (first test xs) ≡ 0 → ⊥)
-          → (first test xs ≢ 0 → first test (xs ++ ys) ≡ first test xs)
-          → cond b x (first test (xs ++ ys)) ≡ cond b x (first test xs)
-      go true h later = refl
-      go false h later = later h
+  first-stop (x ∷ xs) ys h = elim (truth (test x)) [
+    | inl f ↦ rw f
+    | inr f ↦ rw f (first-stop xs ys (rw f at h))
+  ]
 
   -- where none of the first part holds, it is the first of the rest
   pub none-first : (xs ys : List ℕ) → None test xs → first test (xs ++ ys) ≡ first test ys
@@ -76,26 +73,32 @@ module _ (test : ℕ → Bool) where
   pub first-of : (ks : List ℕ) → first test ks ≢ 0 → FirstOf test ks (first test ks)
   unfolding first
   first-of [] h = absurd (h refl)
-  first-of (k ∷ ks) h = go (test k) refl h (first-of ks)
-    where
-      go : (b : Bool) → test k ≡ b → cond b k (first test ks) ≢ 0 → (first test ks ≢ 0 → FirstOf test ks (first test ks))
-          → FirstOf test (k ∷ ks) (cond b k (first test ks))
-      go true e h later = record { before = []; after = ks; parts = refl; holds = e; none-before = none-nil }
-      go false e h later =
-          let p = later h in
-          record {
-            before = k ∷ p .before;
-            after = p .after;
-            parts = ap {B = List ℕ} (λ ys. k ∷ ys) (p .parts);
-            holds = p .holds;
-            none-before = none-cons k (p .before) e (p .none-before);
-          }
+  first-of (k ∷ ks) h = elim (truth (test k)) [
+    | inl f ↦ rw f (record { before = []; after = ks; parts = refl; holds = f; none-before = none-nil })
+    | inr f ↦
+        let p = first-of ks (rw f at h) in
+        rw f (record {
+          before = k ∷ p .before;
+          after = p .after;
+          parts = ap {B = List ℕ} (λ ys. k ∷ ys) (p .parts);
+          holds = p .holds;
+          none-before = none-cons k (p .before) f (p .none-before);
+        })
+  ]
 
 -- tests that agree find the same number
 pub first-cong : (test test′ : ℕ → Bool) → ((k : ℕ) → test k ≡ test′ k) → (ks : List ℕ) → first test ks ≡ first test′ ks
 unfolding first
 first-cong test test′ e [] = refl
 first-cong test test′ e (k ∷ ks) = ap₂ (λ (b : Bool) (n : ℕ). cond b k n) (e k) (first-cong test test′ e ks)
+
+-- where some test holding is excluded, none holds
+pub some-none : (test : ℕ → Bool) (ks : List ℕ) → some test ks ≡ false → None test ks
+unfolding some
+some-none test [] e = none-nil test
+some-none test (k ∷ ks) e =
+    let p = or-false (test k) (some test ks) e in
+    none-cons test k ks (p .0) (some-none test ks (p .1))
 
 -- every number of js stands in ks
 abbrev pub within : List ℕ → List ℕ → Bool
@@ -113,14 +116,10 @@ none-within test (j ∷ js) ks t n =
 pub among-part : (keep : ℕ → Bool) (ks : List ℕ) (k : ℕ) → T (among k (part keep ks)) → T (keep k) × T (among k ks)
 unfolding part among
 among-part keep [] k t = absurd t
-among-part keep (x ∷ ks) k t = go (keep x) refl t (among-part keep ks k)
-  where
-    go : (b : Bool) → keep x ≡ b → T (among k (cond b (x ∷ part keep ks) (part keep ks)))
-        → (T (among k (part keep ks)) → T (keep k) × T (among k ks)) → T (keep k) × T (eqb k x || among k ks)
-    go true e t later = elim (or-cases (eqb k x) (among k (part keep ks)) t) [
-      | inl q ↦
-          let same = eqb→eq k x q in
-          (subst (λ (j : ℕ). T (keep j)) (sym same) (subst T (sym e) tt), or-left (eqb k x) (among k ks) q)
-      | inr q ↦ let p = later q in (p .0, or-right (eqb k x) (among k ks) (p .1))
-    ]
-    go false e t later = let p = later t in (p .0, or-right (eqb k x) (among k ks) (p .1))
+among-part keep (x ∷ ks) k t = elim (truth (keep x)) [
+  | inl f ↦ elim (or-cases (eqb k x) (among k (part keep ks)) (rw f at t)) [
+    | inl q ↦ (rw (eqb→eq k x q, f) tt, or-left (eqb k x) (among k ks) q)
+    | inr q ↦ let p = among-part keep ks k q in (p .0, or-right (eqb k x) (among k ks) (p .1))
+  ]
+  | inr f ↦ let p = among-part keep ks k (rw f at t) in (p .0, or-right (eqb k x) (among k ks) (p .1))
+]

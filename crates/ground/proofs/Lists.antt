@@ -1,16 +1,15 @@
 -- Lists that are mapped and joined, and elements of them.
 use mathlib.Core.Path.{_≡_, refl, sym, ap, ap₂, _∙_}
 use mathlib.Core.Logic.{inl, inr}
-use mathlib.Core.Bool.{Bool, false}
+use mathlib.Core.Bool.{Bool}
 use mathlib.Core.List.{List, [], _∷_, _++_, map, append-nil, append-assoc}
 use Prim.Native.Nat.{ℕ, zero, suc, _+_, _*_, _<_}
 use native.Mathlib.Nat.{zero-mul, not-suc-le-zero, le-of-suc-le-suc}
 use native.Mathlib.Omega.{arith}
-use lib.Dec.{T, eqb, eqb-refl, eqb→eq}
-use lib.ListN.{length, getD, take, drop, replicate, length-append, List·getD-append}
-use lib.Seq.{getD-append-add, take-at, drop-append-add}
+use lib.Dec.{T, eqb, eqb-refl}
+use lib.ListN.{length, getD, take, drop, replicate, length-append}
+use lib.Seq.{getD-take, getD-drop, take-at, drop-append-add}
 use Rattle.ground.specs.Lists.{join, some, each, among}
-use Rattle.ground.proofs.Booleans.{or-false}
 use Rattle.ground.proofs.Tests.{and-left, and-right, or-cases, or-left, or-right}
 
 -- ---- lists that are mapped
@@ -46,15 +45,6 @@ unfolding among
 among-at f [] x i h = absurd (not-suc-le-zero h)
 among-at f (y ∷ xs) x zero h = or-left (eqb (f y) (f y)) _ (eqb-refl (f y))
 among-at f (y ∷ xs) x (suc i) h = or-right (eqb (f (getD xs i x)) (f y)) _ (among-at f xs x i (le-of-suc-le-suc h))
-
--- where some element passing is excluded, none passes
-pub some-false : (test : ℕ → Bool) (xs : List ℕ) (k : ℕ) → some test xs ≡ false → T (among k xs) → test k ≡ false
-unfolding some among
-some-false test [] k e t = absurd t
-some-false test (x ∷ xs) k e t = elim (or-cases (eqb k x) (among k xs) t) [
-  | inl q ↦ ap test (eqb→eq k x q) ∙ or-false (test x) (some test xs) e .0
-  | inr q ↦ some-false test xs k (or-false (test x) (some test xs) e .1) q
-]
 
 -- What is told of each element, and carries over from an element that is found to what was looked for, holds of that.
 pub at-some : {A : Type 0} (P : Type 0) (found test : A → Bool) → ((x : A) → T (found x) → T (test x) → P)
@@ -98,12 +88,6 @@ module _ {A B : Type 0} (f : A → List B) where
 
   pub join-entry : (xs : List A) (x : A) (z : B) (w : ℕ) → ((j : ℕ) → j < length xs → length (f (getD xs j x)) ≡ w)
       → (j i : ℕ) → j < length xs → i < w → getD (join (map f xs)) (j * w + i) z ≡ getD (f (getD xs j x)) i z
-  unfolding join
-  join-entry [] x z w l j i h k = absurd (not-suc-le-zero h)
-  join-entry (y ∷ xs) x z w l zero i h k =
-      ap (λ (n : ℕ). getD (f y ++ join (map f xs)) n z) (omega arith)
-      ∙ List·getD-append (f y) (join (map f xs)) z i (omega (arith, l 0 (omega arith)))
-  join-entry (y ∷ xs) x z w l (suc j) i h k =
-      ap (λ (n : ℕ). getD (f y ++ join (map f xs)) n z) (omega (arith, l 0 (omega arith)))
-      ∙ getD-append-add (f y) (join (map f xs)) (j * w + i) z
-      ∙ join-entry xs x z w (λ m p. l (suc m) (omega arith)) j i (omega arith) k
+  join-entry xs x z w l j i h k =
+      sym (getD-take w _ i z k ∙ getD-drop (j * w) (join (map f xs)) i z)
+      ∙ ap (λ ys. getD ys i z) (join-part xs x w l j h)

@@ -10,8 +10,8 @@ use lib.ListN.{length, drop, getD, length-map, List·getD-append}
 use borrow.Author.Tests.{ltb-false, eqb-false, ne-eqb}
 use Rattle.ground.specs.Lists.{among}
 use Rattle.ground.specs.First.{part, None}
-use Rattle.ground.proofs.Lists.{map-at, drop-map, take-map, some-false}
-use Rattle.ground.proofs.First.{first-none, among-part}
+use Rattle.ground.proofs.Lists.{map-at, drop-map, take-map}
+use Rattle.ground.proofs.First.{some-none, first-none, among-part}
 use Rattle.weight.specs.declared.Weight.{Weight}
 use Rattle.weight.specs.Table.{none, weight, pairs}
 use Rattle.weight.specs.Products.{power, Within, fullPower, powerBelow, powerAbove, portPower}
@@ -78,7 +78,7 @@ module _ {R : Type 0} (b : Codebook R) {InRange : R → Type 0} (lawful : Lawful
     pub read-one : (k : ℕ) → T (among k (b .bitsRead r)) → bit mask k ≡ 1
     unfolding test barred isZero bit
     read-one k t =
-        let e = some-false (isZero mask) (b .bitsRead r) k (none-of .at 10 (lawful .last-two .0)) t in
+        let e = some-none (isZero mask) (b .bitsRead r) (none-of .at 10 (lawful .last-two .0)) .at k t in
         let z = eqb-false (bitOf (getD mask (k / 8) 0) (k % 8)) 0 e in
         omega arith
 
