@@ -1,6 +1,6 @@
 -- Truth values.
-use mathlib.Core.Path.{_≡_, refl}
-use mathlib.Core.Bool.{Bool, true, false, cond, _&&_, _||_, Bool·beq, true≢false, false≢true}
+use mathlib.Core.Path.{_≡_, refl, sym}
+use mathlib.Core.Bool.{Bool, true, false, cond, _&&_, _||_, and-false, Bool·beq, true≢false, false≢true}
 use mathlib.Core.Logic.{_⊎_, inl, inr}
 use lib.Dec.{T}
 
@@ -33,8 +33,7 @@ or-false true b e = absurd (true≢false e)
 or-false false b e = (refl, e)
 
 pub or-nothing : (a : Bool) → a ≡ (a || false)
-or-nothing true = refl
-or-nothing false = refl
+or-nothing a = sym (mathlib.Core.Bool.or-false a)
 
 pub and-true-left : (a b : Bool) → (a && b) ≡ true → a ≡ true
 and-true-left true b e = refl
@@ -45,5 +44,4 @@ and-true-right true b e = e
 and-true-right false b e = absurd (false≢true e)
 
 pub and-nothing : (a : Bool) → (a && false) ≡ false
-and-nothing true = refl
-and-nothing false = refl
+and-nothing = and-false

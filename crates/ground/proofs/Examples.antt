@@ -1,6 +1,6 @@
 -- What the definitions of this crate are and are not: for each, an example that has it and one that has not.
 use mathlib.Core.Path.{_≡_, refl, sym, ap, _∙_}
-use mathlib.Core.Bool.{Bool, true, false, true≢false}
+use mathlib.Core.Bool.{true, false, true≢false}
 use mathlib.Core.List.{List, [], _∷_}
 use Prim.Native.Nat.{ℕ, _<_}
 use native.Mathlib.Omega.{arith}
@@ -14,40 +14,37 @@ use Rattle.ground.proofs.First.{first-none, first-of, first-only}
 
 -- ---- the first number above 5
 
-abbrev large : ℕ → Bool
-large k = ltb 5 k
-
 abbrev numbers : List ℕ
 numbers = 3 ∷ 7 ∷ 9 ∷ []
 
 -- of 3 and 5 there is none
-pub none-large : None large (3 ∷ 5 ∷ [])
+pub none-large : None (ltb 5) (3 ∷ 5 ∷ [])
 unfolding first numbered
-none-large = first-none large (3 ∷ 5 ∷ []) tt refl
+none-large = first-none (ltb 5) (3 ∷ 5 ∷ []) tt refl
 
 -- of 3, 7 and 9 there is one
-pub not-none-large : None large numbers → ⊥
+pub not-none-large : None (ltb 5) numbers → ⊥
 unfolding among
 not-none-large n = true≢false (n .at 7 tt)
 
 -- it is 7
-pub seven-first : FirstOf large numbers 7
+pub seven-first : FirstOf (ltb 5) numbers 7
 unfolding first
-seven-first = first-of large numbers (λ e. omega arith)
+seven-first = first-of (ltb 5) numbers (λ e. omega arith)
 
 -- and not 9, which is above 5 but comes later
-pub nine-not-first : FirstOf large numbers 9 → ⊥
+pub nine-not-first : FirstOf (ltb 5) numbers 9 → ⊥
 unfolding first
-nine-not-first f = omega (arith, first-only large numbers 9 f)
+nine-not-first f = omega (arith, first-only (ltb 5) numbers 9 f)
 
 -- nor 3, which comes earlier but is not above 5
-pub three-not-first : FirstOf large numbers 3 → ⊥
+pub three-not-first : FirstOf (ltb 5) numbers 3 → ⊥
 three-not-first f = true≢false (sym (f .holds))
 
 -- nor 8, which is not in the list
-pub eight-not-first : FirstOf large numbers 8 → ⊥
+pub eight-not-first : FirstOf (ltb 5) numbers 8 → ⊥
 unfolding first
-eight-not-first f = omega (arith, first-only large numbers 8 f)
+eight-not-first f = omega (arith, first-only (ltb 5) numbers 8 f)
 
 -- ---- a property of every element
 

@@ -2,7 +2,7 @@
 use mathlib.Core.Path.{_≡_, refl, ap, ap₂, _∙_}
 use mathlib.Core.Logic.{_≢_, inl, inr}
 use mathlib.Core.Bool.{Bool, true, false, cond, _&&_}
-use mathlib.Core.List.{List, [], _∷_, _++_}
+use mathlib.Core.List.{List, [], _∷_, _++_, append-nil}
 use Prim.Native.Nat.{ℕ}
 use native.Mathlib.Omega.{arith}
 use lib.Dec.{T, eqb, eqb-refl, ltb, eqb→eq, ltb→lt}
@@ -25,19 +25,23 @@ module _ (test : ℕ → Bool) where
     ];
   }
 
-  none-head : (k : ℕ) (ks : List ℕ) → None test (k ∷ ks) → test k ≡ false
+  none-parts : (k : ℕ) (ks : List ℕ) → None test (k ∷ ks) → (test k ≡ false) × None test ks
   unfolding among
-  none-head k ks n = n .at k (or-left (eqb k k) (among k ks) (eqb-refl k))
+  none-parts k ks n = (
+    n .at k (or-left (eqb k k) (among k ks) (eqb-refl k)),
+    record { at = λ j t. n .at j (or-right (eqb j k) (among j ks) t) },
+  )
 
-  none-tail : (k : ℕ) (ks : List ℕ) → None test (k ∷ ks) → None test ks
-  unfolding among
-  none-tail k ks n = record { at = λ j t. n .at j (or-right (eqb j k) (among j ks) t) }
+  -- where none of the first part holds, it is the first of the rest
+  pub none-first : (xs ys : List ℕ) → None test xs → first test (xs ++ ys) ≡ first test ys
+  unfolding first
+  none-first [] ys n = refl
+  none-first (x ∷ xs) ys n = let p = none-parts x xs n in rw (p .0) (none-first xs ys (p .1))
 
   -- where no test holds the number is 0
   pub none-zero : (ks : List ℕ) → None test ks → first test ks ≡ 0
   unfolding first
-  none-zero [] n = refl
-  none-zero (k ∷ ks) n = rw (none-head k ks n) (none-zero ks (none-tail k ks n))
+  none-zero ks n = rw append-nil at (none-first ks [] n)
 
   -- and where it is 0 none holds
   pub first-none : (ks : List ℕ) → T (numbered ks) → first test ks ≡ 0 → None test ks
@@ -56,12 +60,6 @@ module _ (test : ℕ → Bool) where
     | inl f ↦ rw f
     | inr f ↦ rw f (first-stop xs ys (rw f at h))
   ]
-
-  -- where none of the first part holds, it is the first of the rest
-  pub none-first : (xs ys : List ℕ) → None test xs → first test (xs ++ ys) ≡ first test ys
-  unfolding first
-  none-first [] ys n = refl
-  none-first (x ∷ xs) ys n = rw (none-head x xs n) (none-first xs ys (none-tail x xs n))
 
   -- a number of which FirstOf tells is that number, so there is no other
   pub first-only : (ks : List ℕ) (k : ℕ) → FirstOf test ks k → first test ks ≡ k

@@ -65,17 +65,14 @@ module _ {A B : Type 0} (f : A → List B) where
   unfolding join
   join-next [] j x h = absurd (not-suc-le-zero h)
   join-next (y ∷ xs) zero x h = append-nil (f y)
-  join-next (y ∷ xs) (suc j) x h =
-      ap (λ (l : List B). f y ++ l) (join-next xs j x (le-of-suc-le-suc h))
-      ∙ sym (append-assoc (f y) (join (map f (take j xs))) (f (getD xs j x)))
+  join-next (y ∷ xs) (suc j) x h = rw (join-next xs j x (le-of-suc-le-suc h), append-assoc)
 
   pub length-join : (xs : List A) (x : A) (w : ℕ) → ((j : ℕ) → j < length xs → length (f (getD xs j x)) ≡ w)
       → length (join (map f xs)) ≡ length xs * w
   unfolding join
   length-join [] x w h = sym (zero-mul w)
   length-join (y ∷ xs) x w h =
-      length-append (f y) (join (map f xs))
-      ∙ omega (arith, h 0 (omega arith), length-join xs x w (λ j k. h (suc j) (omega arith)))
+      rw length-append (omega (arith, h 0 (omega arith), length-join xs x w (λ j k. h (suc j) (omega arith))))
 
   pub join-part : (xs : List A) (x : A) (w : ℕ) → ((j : ℕ) → j < length xs → length (f (getD xs j x)) ≡ w)
       → (j : ℕ) → j < length xs → take w (drop (j * w) (join (map f xs))) ≡ f (getD xs j x)
