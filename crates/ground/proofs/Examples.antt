@@ -32,19 +32,10 @@ pub seven-first : FirstOf (ltb 5) numbers 7
 unfolding first
 seven-first = first-of (ltb 5) numbers (λ e. omega arith)
 
--- and not 9, which is above 5 but comes later
-pub nine-not-first : FirstOf (ltb 5) numbers 9 → ⊥
+-- and no other: not 9, which comes later, nor 3, which is not above 5, nor 8, which is not in the list
+pub only-seven-first : (k : ℕ) → FirstOf (ltb 5) numbers k → 7 ≡ k
 unfolding first
-nine-not-first f = omega (arith, first-only (ltb 5) numbers 9 f)
-
--- nor 3, which comes earlier but is not above 5
-pub three-not-first : FirstOf (ltb 5) numbers 3 → ⊥
-three-not-first f = true≢false (sym (f .holds))
-
--- nor 8, which is not in the list
-pub eight-not-first : FirstOf (ltb 5) numbers 8 → ⊥
-unfolding first
-eight-not-first f = omega (arith, first-only (ltb 5) numbers 8 f)
+only-seven-first = first-only (ltb 5) numbers
 
 -- ---- a property of every element
 

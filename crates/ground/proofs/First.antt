@@ -1,7 +1,7 @@
 -- The first of a list of numbers whose test holds; what it means that none does; parts of a list.
-use mathlib.Core.Path.{_≡_, refl, ap, ap₂, _∙_}
+use mathlib.Core.Path.{_≡_, refl, ap, _∙_}
 use mathlib.Core.Logic.{_≢_, inl, inr}
-use mathlib.Core.Bool.{Bool, true, false, cond, _&&_}
+use mathlib.Core.Bool.{Bool, true, false, _&&_}
 use mathlib.Core.List.{List, [], _∷_, _++_, append-nil}
 use Prim.Native.Nat.{ℕ}
 use native.Mathlib.Omega.{arith}
@@ -86,9 +86,7 @@ module _ (test : ℕ → Bool) where
 
 -- tests that agree find the same number
 pub first-cong : (test test′ : ℕ → Bool) → ((k : ℕ) → test k ≡ test′ k) → (ks : List ℕ) → first test ks ≡ first test′ ks
-unfolding first
-first-cong test test′ e [] = refl
-first-cong test test′ e (k ∷ ks) = ap₂ (λ (b : Bool) (n : ℕ). cond b k n) (e k) (first-cong test test′ e ks)
+first-cong test test′ e ks = λ i. first (λ k. e k i) ks
 
 -- where some test holding is excluded, none holds
 pub some-none : (test : ℕ → Bool) (ks : List ℕ) → some test ks ≡ false → None test ks

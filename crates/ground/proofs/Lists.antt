@@ -1,5 +1,5 @@
 -- Lists that are mapped and joined, and elements of them.
-use mathlib.Core.Path.{_≡_, refl, sym, ap, ap₂, _∙_}
+use mathlib.Core.Path.{_≡_, refl, sym, ap, _∙_}
 use mathlib.Core.Logic.{inl, inr}
 use mathlib.Core.Bool.{Bool}
 use mathlib.Core.List.{List, [], _∷_, _++_, map, append-nil, append-assoc}
@@ -34,8 +34,7 @@ module _ {A B : Type 0} (f : A → B) where
 pub all-ones : {A : Type 0} (f : A → ℕ) (xs : List A) (x : A) → ((i : ℕ) → i < length xs → f (getD xs i x) ≡ 1)
     → map f xs ≡ replicate (length xs) 1
 all-ones f [] x h = refl
-all-ones f (y ∷ xs) x h =
-    ap₂ {C = List ℕ} (λ y ys. y ∷ ys) (h 0 (omega arith)) (all-ones f xs x (λ i k. h (suc i) (omega arith)))
+all-ones f (y ∷ xs) x h = rw (h 0 (omega arith), all-ones f xs x (λ i k. h (suc i) (omega arith)))
 
 -- ---- tests over a list
 

@@ -1,6 +1,6 @@
 -- A lent list d over which a list s of n elements is written, from the front or from a place on: what stands there after
 -- i stores. Over any type of element.
-use mathlib.Core.Path.{_≡_, sym, ap, _∙_}
+use mathlib.Core.Path.{_≡_, _∙_}
 use mathlib.Core.List.{List, _++_}
 use Prim.Native.Nat.{ℕ, _+_, _<_, _≤_}
 use native.Mathlib.Nat.{zero-add}
@@ -35,4 +35,4 @@ module _ {A : Type 0} where
       → take (n + w) o ≡ p ++ take w s
   take-over {o} p s t n w q e h =
       let long : length p + w ≤ length (p ++ s) = rw length-append (omega arith) in
-      ap (λ (m : ℕ). take (m + w) o) (sym e) ∙ rw q (take-append-le (length p + w) (p ++ s) t long) ∙ take-append-add p s w
+      rw (q, ← e, take-append-le (length p + w) (p ++ s) t long) (take-append-add p s w)

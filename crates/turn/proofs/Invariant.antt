@@ -9,9 +9,7 @@ use Rattle.turn.specs.Column.{product, steps}
 use Rattle.turn.specs.Cancel.{total, Steady, Invariant}
 
 pub total-cong : {f g : ℕ → ℕ} → ((x : ℕ) → f x ≡ g x) → (xs : List ℕ) → total f xs ≡ total g xs
-unfolding total
-total-cong e [] = refl
-total-cong e (x ∷ xs) = ap₂ _+_ (e x) (total-cong e xs)
+total-cong e xs = λ i. total (λ x. e x i) xs
 
 pub total-append : (f : ℕ → ℕ) (xs ys : List ℕ) → total f (xs ++ ys) ≡ total f xs + total f ys
 unfolding total

@@ -29,11 +29,10 @@ loop-holds c = (omega arith, refl, refl)
 loop-again : tie.Need-loop-again Inv-loop μ-loop
 loop-again c =
     let l = c .before .before .loop in
-    let few = c .before .before .before in
-    let a = few .before .before .args in
+    let a = c .before .before .before .before .before .args in
     let entry = sym (getD-take (a .n) (a .from .now) (l .i) 0 (c .before .loop-test .taken)) in (
       omega arith,
-      stored _ _ (a .n) (l .i) 0 (l .inv .1) entry (simp length-take (omega arith)) (omega arith) (few .if2 .left),
+      stored _ _ (a .n) (l .i) 0 (l .inv .1) entry (simp length-take (omega arith)) (omega arith) (omega arith),
       simp length-set (l .inv .2),
     )
 
