@@ -1,5 +1,5 @@
 -- A property of every element of a list.
-use mathlib.Core.List.{List, _++_, map}
+use mathlib.Core.List.{List, _++_, map, map-id}
 use Prim.Native.Nat.{ℕ}
 use Rattle.ground.specs.Lists.{All, all-nil, all-cons}
 
@@ -7,10 +7,9 @@ pub all-append : {P : ℕ → Type 0} {xs ys : List ℕ} → All P xs → All P 
 all-append all-nil q = q
 all-append (all-cons h p) q = all-cons h (all-append p q)
 
-pub all-each : {P Q : ℕ → Type 0} → ((x : ℕ) → P x → Q x) → {xs : List ℕ} → All P xs → All Q xs
-all-each h all-nil = all-nil
-all-each h (all-cons {x} p a) = all-cons (h x p) (all-each h a)
-
 pub all-map : {P Q : ℕ → Type 0} (f : ℕ → ℕ) → ((x : ℕ) → P x → Q (f x)) → {xs : List ℕ} → All P xs → All Q (map f xs)
 all-map f h all-nil = all-nil
 all-map f h (all-cons {x} p a) = all-cons (h x p) (all-map f h a)
+
+pub all-each : {P Q : ℕ → Type 0} → ((x : ℕ) → P x → Q x) → {xs : List ℕ} → All P xs → All Q xs
+all-each h a = rw map-id at (all-map (λ x. x) h a)

@@ -59,13 +59,9 @@ lent = 7 ∷ 8 ∷ 9 ∷ []
 pub two-copied : Copied from 2 lent true (1 ∷ 2 ∷ 9 ∷ [])
 two-copied = record { fits = refl; stands = refl }
 
--- of one number not even it is copied
-pub too-few-copied : Copied {A = ℕ} (1 ∷ []) 2 lent false lent
-too-few-copied = record { fits = refl; stands = refl }
-
--- nor to one place
-pub too-few-lent : Copied {A = ℕ} from 2 (7 ∷ []) false (7 ∷ [])
-too-few-lent = record { fits = refl; stands = refl }
+-- of one number not even it is copied, nor to one place
+pub too-few : Copied {A = ℕ} (1 ∷ []) 2 lent false lent × Copied {A = ℕ} from 2 (7 ∷ []) false (7 ∷ [])
+too-few = (record { fits = refl; stands = refl }, record { fits = refl; stands = refl })
 
 -- what fits is not refused
 pub fits-not-refused : (left : List ℕ) → Copied from 2 lent false left → ⊥
