@@ -1,7 +1,7 @@
 -- Truth values.
 use mathlib.Core.Path.{_≡_, refl, sym}
-use mathlib.Core.Bool.{Bool, true, false, cond, _&&_, _||_, and-false, Bool·beq, true≢false, false≢true}
 use mathlib.Core.Logic.{_⊎_, inl, inr}
+use mathlib.Core.Bool.{Bool, true, false, cond, _&&_, _||_, and-false, Bool·beq, true≢false, false≢true}
 use lib.Dec.{T}
 
 pub truth : (b : Bool) → (b ≡ true) ⊎ (b ≡ false)

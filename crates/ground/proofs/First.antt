@@ -5,10 +5,10 @@ use mathlib.Core.Bool.{Bool, true, false, _&&_}
 use mathlib.Core.List.{List, [], _∷_, _++_, append-nil}
 use Prim.Native.Nat.{ℕ}
 use native.Mathlib.Omega.{arith}
-use lib.Dec.{T, eqb, eqb-refl, ltb, eqb→eq, ltb→lt}
+use lib.Dec.{T, eqb, ltb, eqb-refl, eqb→eq, ltb→lt}
 use Rattle.ground.specs.Lists.{some, among}
-use Rattle.ground.proofs.Booleans.{truth, or-false}
 use Rattle.ground.specs.First.{first, numbered, part, None, FirstOf}
+use Rattle.ground.proofs.Booleans.{truth, or-false}
 use Rattle.ground.proofs.Tests.{and-left, and-right, or-cases, or-left, or-right}
 
 module _ (test : ℕ → Bool) where

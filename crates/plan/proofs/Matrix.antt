@@ -8,17 +8,17 @@ use native.Mathlib.Omega.{arith}
 use lib.IntN.{natAbs}
 use lib.Arith.{digits-lt}
 use lib.ListN.{length, getD}
+use Rattle.ground.proofs.Lists.{length-join, join-part, join-entry}
 use Rattle.turn.specs.Phase.{turn, phase}
 use Rattle.turn.specs.Column.{Setting, Divides, beam, column}
 use Rattle.turn.specs.Exact.{differences, Orthogonal}
+use Rattle.turn.specs.Cancel.{Cancels}
 use Rattle.turn.proofs.Lists.{length-beam}
 use Rattle.turn.proofs.Columns.{length-column}
 use Rattle.turn.proofs.Entries.{beam-reduced, entry}
-use Rattle.turn.specs.Cancel.{Cancels}
 use Rattle.turn.proofs.Cancel.{cancels-orthogonal, opposites-cancel, beams-cancel}
 use Rattle.weight.specs.Products.{re, im, limit}
 use Rattle.weight.proofs.CrossSum.{between, cross-bound}
-use Rattle.ground.proofs.Lists.{length-join, join-part, join-entry}
 use Rattle.plan.specs.Plan.{Layer, Plan, past, layerAt, columnOf, matrix, layer}
 use Rattle.plan.specs.Sound.{Moved, Told, by-co-phases, by-beams, Sound}
 

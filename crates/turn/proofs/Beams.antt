@@ -8,8 +8,8 @@ use Rattle.turn.specs.Apart.{Apart, Common}
 use Rattle.turn.specs.Phase.{turn, phase}
 use Rattle.turn.specs.Column.{Setting, Divides, steps, product, beam}
 use Rattle.turn.specs.Exact.{differences}
-use Rattle.turn.proofs.Lists.{length-beam}
 use Rattle.turn.specs.Cancel.{Invariant}
+use Rattle.turn.proofs.Lists.{length-beam}
 use Rattle.turn.proofs.Invariant.{invariant-left, invariant-right, invariant-phases, invariant-steps}
 use Rattle.turn.proofs.Differences.{differences-grid}
 use Rattle.turn.proofs.Steps.{gap, step-gap, gap-round, gap-some, gap-multiple}

@@ -11,10 +11,10 @@ use Rattle.turn.specs.Cancel.{Coarse, Cancels, opposites, thirds, Invari
 use Rattle.turn.specs.Phase.{half, third, twelfth, phase}
 use Rattle.turn.specs.Column.{Setting, Divides, beam, column}
 use Rattle.turn.specs.Exact.{differences, Orthogonal}
+use Rattle.turn.specs.Apart.{Apart, Common, flipped, Even}
 use Rattle.turn.proofs.Zero.{to-half, half-or-third}
 use Rattle.turn.proofs.Differences.{differences-column}
 use Rattle.turn.proofs.Steps.{gap-multiple}
-use Rattle.turn.specs.Apart.{Apart, Common, flipped, Even}
 use Rattle.turn.proofs.Beams.{same-length, differences-beams, beams-turned}
 use Rattle.turn.proofs.Orthogonal.{opposites-invariant, orthogonal-turned, turned-by-beams, turned-by-co-phases}
 use Rattle.turn.proofs.Multiples.{multiples-steps, multiples-product, multiples-phases}

@@ -8,9 +8,9 @@ use native.Mathlib.Omega.{arith}
 use lib.Arith.{digits-lt}
 use lib.ListN.{length, getD, length-map, List·getD-append, List·getD-map}
 use lib.Seq.{getD-at, getD-append-add}
+use Rattle.ground.proofs.Lists.{map-at}
 use Rattle.turn.specs.Phase.{turn, phase}
 use Rattle.turn.specs.Column.{Setting, Divides, steps, product, grid, step, beam, column}
-use Rattle.ground.proofs.Lists.{map-at}
 use Rattle.turn.proofs.Lists.{length-steps, length-beam}
 use Rattle.turn.proofs.Steps.{left-pos}
 

@@ -1,7 +1,7 @@
 -- Totals of a function over a list of phases, and lists that a turn by g only permutes: what keeps that.
 use mathlib.Core.Path.{_≡_, refl, sym, ap, ap₂, _∙_}
 use mathlib.Core.List.{List, [], _∷_, _++_, map}
-use Prim.Native.Nat.{ℕ, _+_, zero, suc, _*_}
+use Prim.Native.Nat.{ℕ, zero, suc, _+_, _*_}
 use native.Mathlib.Nat.{zero-add, mod-add-mod, zero-mul, suc-mul}
 use native.Mathlib.Omega.{arith}
 use Rattle.turn.specs.Phase.{turn, phase}

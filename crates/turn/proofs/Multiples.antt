@@ -4,10 +4,10 @@ use mathlib.Core.List.{List, map}
 use Prim.Native.Nat.{ℕ, zero, suc, _+_, _*_, _/_, _%_, _<_}
 use native.Mathlib.Nat.{zero-mod, add-mod, dvd-of-mod-eq-zero, mod-mod-of-dvd, not-suc-le-zero, le-of-suc-le-suc}
 use lib.ListN.{length, getD}
-use Rattle.turn.specs.Phase.{turn, phase}
-use Rattle.turn.specs.Column.{steps, product, grid, step, column}
 use Rattle.ground.specs.Lists.{all-nil, all-cons}
 use Rattle.ground.proofs.All.{all-append, all-map}
+use Rattle.turn.specs.Phase.{turn, phase}
+use Rattle.turn.specs.Column.{steps, product, grid, step, column}
 use Rattle.turn.specs.Cancel.{Multiples}
 use Rattle.turn.proofs.Steps.{mul-multiple}
 

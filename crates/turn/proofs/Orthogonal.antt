@@ -1,17 +1,17 @@
 -- Columns are exactly orthogonal where their beams lie whole oversampling steps apart, and where their co-phases agree
 -- as often as they are opposite.
-use mathlib.Core.Path.{_≡_, sym, ap, ap₂, _∙_, refl, subst}
+use mathlib.Core.Path.{_≡_, refl, sym, ap, ap₂, _∙_, subst}
+use mathlib.Core.Logic.{_≢_}
 use mathlib.Core.Bool.{Bool, true, false, cond}
 use mathlib.Core.List.{List, [], _∷_, map}
-use Prim.Native.Nat.{ℕ, _+_, _*_, _-_}
+use Prim.Native.Nat.{ℕ, _+_, _-_, _*_}
 use native.Mathlib.Omega.{arith}
+use native.Mathlib.Nat.{mod-mod}
 use lib.ListN.{length}
 use Rattle.turn.specs.Apart.{flipped, differ, agreeing, differing, Even, Apart}
 use Rattle.turn.specs.Phase.{turn, half, difference, phase}
 use Rattle.turn.specs.Exact.{differences, ExactZero, Orthogonal}
 use Rattle.turn.specs.Cancel.{total, Invariant}
-use mathlib.Core.Logic.{_≢_}
-use native.Mathlib.Nat.{mod-mod}
 use Rattle.turn.specs.Column.{Setting, Divides, beam, column}
 use Rattle.turn.proofs.Invariant.{invariant-left, invariant-right, invariant-phases}
 use Rattle.turn.proofs.Zero.{exact-zero}

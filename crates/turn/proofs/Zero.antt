@@ -1,19 +1,19 @@
 -- A list of phases that some turn only permutes sums to exactly zero.
 use mathlib.Core.Path.{_≡_, refl, sym, ap, _∙_, subst}
-use mathlib.Core.Logic.{_⊎_, inl, inr, _≢_}
+use mathlib.Core.Logic.{_≢_, _⊎_, inl, inr}
 use mathlib.Core.Bool.{Bool, false, cond, _||_}
 use mathlib.Core.List.{List, [], _∷_, map}
 use Prim.Native.Nat.{ℕ, zero, suc, _+_, _%_, _<_}
 use native.Mathlib.Nat.{mod-mod, mod-lt}
 use native.Mathlib.Decide.{ℕ-discrete}
-use borrow.Author.Tests.{eq-eqb, ne-eqb}
 use native.Mathlib.Omega.{arith}
 use lib.Dec.{T, eqb, eqb→eq, lit<}
 use lib.IntN.{pos, negℤ, _+ℤ_, _-ℤ_, +ℤ-invr, +ℤ-comm, negℤ-+ℤ, negℤ-negℤ}
+use borrow.Author.Tests.{eq-eqb, ne-eqb}
+use Rattle.ground.specs.Lists.{every}
+use Rattle.ground.proofs.Tests.{or-cases, or-else, every-at}
 use Rattle.turn.specs.Phase.{turn, half, third, sixth, phase}
 use Rattle.turn.specs.Exact.{count, d, ExactZero}
-use Rattle.ground.proofs.Tests.{or-cases, or-else, every-at}
-use Rattle.ground.specs.Lists.{every}
 use Rattle.turn.specs.Cancel.{total, Invariant}
 use Rattle.turn.proofs.Invariant.{total-cong, total-map, invariant-add, invariant-same}
 

@@ -1,24 +1,24 @@
 -- Two columns whose differences cancel have a small cross-sum in 16-bit weights: port by port the product is near
 -- radius times the weight at the difference, and these weights sum to zero.
-use mathlib.Core.Path.{_≡_, sym, ap, _∙_, refl, ap₂}
+use mathlib.Core.Path.{_≡_, refl, sym, ap, ap₂, _∙_}
 use mathlib.Core.List.{List, [], _∷_, map}
-use Prim.Native.Nat.{ℕ, _*_, _≤_, _+_}
+use Prim.Native.Nat.{ℕ, _+_, _*_, _≤_}
 use native.Mathlib.Nat.{le-trans}
 use native.Mathlib.Omega.{arith}
 use lib.ListN.{length}
-use lib.IntN.{ℤ, pos, natAbs, _+ℤ_, _-ℤ_, _*ℤ_, +ℤ-idr, negℤ, +ℤ-invr}
+use lib.IntN.{ℤ, pos, negℤ, natAbs, _+ℤ_, _-ℤ_, _*ℤ_, +ℤ-idr, +ℤ-invr}
+use Rattle.ground.specs.Lists.{All, all-nil, all-cons}
+use Rattle.ground.proofs.All.{all-each}
 use Rattle.turn.specs.Phase.{difference, half, third}
 use Rattle.turn.specs.Exact.{differences}
 use Rattle.turn.specs.Cancel.{Cancels, total, Invariant, opposites, thirds}
+use Rattle.turn.proofs.Invariant.{total-cong, invariant-add}
 use Rattle.weight.specs.declared.Weight.{Weight}
 use Rattle.weight.specs.Table.{radius, weight}
 use Rattle.weight.specs.Products.{re, im, off, limit, cross, turned}
 use Rattle.weight.proofs.Integers.{size-add, sub-sums, mul-sum, above, below, parts, add-parts, zero-parts}
 use Rattle.weight.proofs.Rules.{x, y, weight-phase, half-more, Balanced, balanced}
 use Rattle.weight.proofs.Products.{product-within}
-use Rattle.ground.specs.Lists.{All, all-nil, all-cons}
-use Rattle.ground.proofs.All.{all-each}
-use Rattle.turn.proofs.Invariant.{total-cong, invariant-add}
 
 unfoldable pub sum : (ℕ → ℤ) → List ℕ → ℤ
 sum f [] = pos 0

@@ -3,11 +3,11 @@ use mathlib.Core.Path.{_≡_, refl, sym, ap, ap₂, _∙_}
 use Prim.Native.Nat.{ℕ, zero, suc, _+_, _*_, _≤_}
 use native.Mathlib.Nat.{le-refl, mul-zero}
 use native.Mathlib.Omega.{arith}
-use borrow.Author.Tests.{lt-ltb, le-ltb}
 use native.Mathlib.Decide.{decLt}
-use Rattle.turn.proofs.NotZero.{across}
 use lib.IntN.{ℤ, pos, negsuc, negℤ, natAbs, subℕ, _+ℤ_, _-ℤ_, _*ℤ_, sucℤ-*ℤ, zero-*ℤ, *ℤ-comm, +ℤ-assoc, +ℤ-comm}
 use lib.IntN.{+ℤ-idl, +ℤ-idr, negℤ-+ℤ, negℤ-negℤ}
+use borrow.Author.Tests.{lt-ltb, le-ltb}
+use Rattle.turn.proofs.NotZero.{across}
 
 -- ---- signs and sizes
 

@@ -9,9 +9,9 @@ use native.Mathlib.Omega.{arith}
 use lib.Dec.{T, eqb, eqb→eq}
 use lib.IntN.{ℤ, pos, negℤ, _+ℤ_, _-ℤ_, _*ℤ_}
 use lib.Signed.{ltZ, _<ℤ_, ltZ-yes}
-use Rattle.turn.specs.Phase.{turn, third, quarter, sixth, phase}
-use Rattle.ground.proofs.Tests.{or-else, every-at}
 use Rattle.ground.specs.Lists.{every}
+use Rattle.ground.proofs.Tests.{or-else, every-at}
+use Rattle.turn.specs.Phase.{turn, third, quarter, sixth, phase}
 use Rattle.weight.specs.declared.Weight.{Weight}
 use Rattle.weight.specs.Table.{radius, firstQuarter, firstHalf, xs, ys, table, weight}
 use Rattle.weight.specs.Nearest.{wave, Nearest, doublings}

@@ -5,9 +5,9 @@ use Prim.Native.Nat.{ℕ, zero, suc, _+_, _*_, _/_, _<_}
 use native.Mathlib.Omega.{arith}
 use lib.IntN.{ℤ, pos}
 use lib.ListN.{length, getD, length-map}
+use Rattle.ground.proofs.Lists.{map-at}
 use Rattle.turn.specs.Phase.{turn}
 use Rattle.turn.specs.Column.{steps}
-use Rattle.ground.proofs.Lists.{map-at}
 use Rattle.turn.proofs.Lists.{length-steps}
 use Rattle.turn.proofs.Entries.{steps-entry}
 use Rattle.weight.specs.declared.Weight.{Weight}

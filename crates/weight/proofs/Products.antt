@@ -3,14 +3,14 @@
 use mathlib.Core.Path.{_≡_, refl, ap, _∙_, subst}
 use mathlib.Core.Bool.{Bool, _&&_}
 use mathlib.Core.List.{zipWith}
-use Prim.Native.Nat.{ℕ, zero, suc, _+_, _*_, _%_, _/_, _<_}
+use Prim.Native.Nat.{ℕ, zero, suc, _+_, _*_, _/_, _%_, _<_}
 use native.Mathlib.Nat.{div-add-mod}
 use native.Mathlib.Omega.{arith}
 use lib.Dec.{T, leb}
 use lib.IntN.{ℤ, pos, negℤ, _+ℤ_, _-ℤ_, _*ℤ_, negℤ-negℤ, negℤ-+ℤ, +ℤ-comm}
-use Rattle.turn.specs.Phase.{quarter, phase, difference}
-use Rattle.ground.proofs.Tests.{two-le, every-at}
 use Rattle.ground.specs.Lists.{every}
+use Rattle.ground.proofs.Tests.{two-le, every-at}
+use Rattle.turn.specs.Phase.{quarter, phase, difference}
 use Rattle.turn.proofs.Differences.{difference-back}
 use Rattle.weight.specs.declared.Weight.{Weight}
 use Rattle.weight.specs.Table.{radius, firstQuarter, firstHalf, xs, ys, table, weight}

@@ -1,22 +1,22 @@
 -- The rules of the table, each compared or tested over the whole of it, which antt computes; and the power of a port.
 use mathlib.Core.Path.{_≡_, refl, sym, ap, _∙_}
 use mathlib.Core.Bool.{Bool, _&&_}
-use mathlib.Core.List.{map, zipWith, List}
-use Prim.Native.Nat.{ℕ, _+_, _*_, _/_, _%_, _<_, zero, suc}
+use mathlib.Core.List.{List, map, zipWith}
+use Prim.Native.Nat.{ℕ, zero, suc, _+_, _*_, _/_, _%_, _<_}
 use native.Mathlib.Nat.{mod-mod, suc-mul}
 use native.Mathlib.Omega.{arith}
 use lib.Dec.{T, leb}
 use lib.ListN.{getD}
 use lib.IntN.{ℤ, pos, _+ℤ_}
-use Rattle.turn.specs.Phase.{turn, half, quarter, third, twelfth, phase}
-use Rattle.ground.proofs.Tests.{two-le, every-at}
+use lib.Arith.{digits-lt}
 use Rattle.ground.specs.Lists.{every}
+use Rattle.ground.proofs.Tests.{two-le, every-at}
+use Rattle.turn.specs.Phase.{turn, half, quarter, third, twelfth, phase}
+use Rattle.turn.specs.Column.{steps}
 use Rattle.weight.specs.declared.Weight.{Weight}
 use Rattle.weight.specs.Table.{firstQuarter, firstHalf, xs, ys, table, none, weight}
 use Rattle.weight.specs.Products.{turned, power, Within, fullPower, limit, powerBelow, powerAbove, portPower}
-use Rattle.turn.specs.Column.{steps}
 use Rattle.weight.proofs.Pairs.{map-steps-at}
-use lib.Arith.{digits-lt}
 
 -- ---- the weight of a number is that of its phase
 
