@@ -45,7 +45,7 @@ opposite-counts xs z i h = across _ _ _ _ (z .opposite i h ∙ sym (neg-sub (cou
 abbrev hits : ℕ → ℕ → ℕ
 hits e x = hit e x + hit e (x + half)
 
--- so that e is at one of two places, of which the first is that of e in half a turn
+-- so that e is at one of two places x and y of half a turn, where x is its own
 hits-one : (e x y : ℕ) → e < turn → x ≡ e % half → y < half → y ≢ x → hits e x + hits e y ≡ 1
 hits-one e x y h q l n =
     rw (ne-eqb e y (omega arith), ne-eqb e (y + half) (omega arith))
@@ -84,7 +84,8 @@ one-phase-not-zero e h = one-more-not-zero e h [] nothing-zero
 
 -- ---- every equation is needed
 
--- xs does not sum to zero, and every equation of the rule holds of it but the first at i and the second at k
+-- xs does not sum to zero, and every equation of the rule holds of it but the first at i and the second at k, of which
+-- there is none where that is a sixth of a turn
 pub record AllBut (xs : List ℕ) (i k : ℕ) : Type 0 where
   pub not-zero : ExactZero xs → ⊥
   pub same : (j : ℕ) → j < sixth → j ≢ i → d xs j ≡ d xs (third + j)

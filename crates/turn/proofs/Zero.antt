@@ -43,6 +43,7 @@ count-turned {g} {xs} p e e′ q =
 
 -- ---- half a turn, and a third
 
+-- the opposite of a difference
 pub neg-sub : (m n : ℕ) → pos m -ℤ pos n ≡ negℤ (pos n -ℤ pos m)
 neg-sub m n =
     sym (negℤ-+ℤ (pos n) (negℤ (pos m)) ∙ ap (λ z. negℤ (pos n) +ℤ z) (negℤ-negℤ (pos m)) ∙ +ℤ-comm (negℤ (pos n)) (pos m))
