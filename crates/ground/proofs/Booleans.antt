@@ -1,7 +1,12 @@
 -- Truth values.
-use mathlib.Core.Path.{_≡_, refl}
-use mathlib.Core.Bool.{Bool, true, false, cond, _&&_, _||_, Bool·beq, true≢false, false≢true}
+use mathlib.Core.Path.{_≡_, refl, sym}
+use mathlib.Core.Logic.{_⊎_, inl, inr}
+use mathlib.Core.Bool.{Bool, true, false, cond, _&&_, _||_, and-false, Bool·beq, true≢false, false≢true}
 use lib.Dec.{T}
+
+pub truth : (b : Bool) → (b ≡ true) ⊎ (b ≡ false)
+truth true = inl refl
+truth false = inr refl
 
 pub is-false : (b : Bool) → (b ≡ true → ⊥) → false ≡ b
 is-false true h = absurd (h refl)
@@ -28,8 +33,7 @@ or-false true b e = absurd (true≢false e)
 or-false false b e = (refl, e)
 
 pub or-nothing : (a : Bool) → a ≡ (a || false)
-or-nothing true = refl
-or-nothing false = refl
+or-nothing a = sym (mathlib.Core.Bool.or-false a)
 
 pub and-true-left : (a b : Bool) → (a && b) ≡ true → a ≡ true
 and-true-left true b e = refl
@@ -40,5 +44,4 @@ and-true-right true b e = e
 and-true-right false b e = absurd (false≢true e)
 
 pub and-nothing : (a : Bool) → (a && false) ≡ false
-and-nothing true = refl
-and-nothing false = refl
+and-nothing = and-false

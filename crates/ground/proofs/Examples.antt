@@ -1,6 +1,6 @@
 -- What the definitions of this crate are and are not: for each, an example that has it and one that has not.
 use mathlib.Core.Path.{_≡_, refl, sym, ap, _∙_}
-use mathlib.Core.Bool.{Bool, true, false, true≢false}
+use mathlib.Core.Bool.{true, false, true≢false}
 use mathlib.Core.List.{List, [], _∷_}
 use Prim.Native.Nat.{ℕ, _<_}
 use native.Mathlib.Omega.{arith}
@@ -10,45 +10,32 @@ use Rattle.ground.specs.Lists.{among, All, all-nil, all-cons}
 use Rattle.ground.specs.First.{first, numbered, None, FirstOf}
 use Rattle.ground.specs.Unique.{Unique, UniqueLeft}
 use Rattle.ground.specs.Copied.{Copied}
-use Rattle.ground.proofs.All.{all-among}
 use Rattle.ground.proofs.First.{first-none, first-of, first-only}
 
 -- ---- the first number above 5
-
-abbrev large : ℕ → Bool
-large k = ltb 5 k
 
 abbrev numbers : List ℕ
 numbers = 3 ∷ 7 ∷ 9 ∷ []
 
 -- of 3 and 5 there is none
-pub none-large : None large (3 ∷ 5 ∷ [])
+pub none-large : None (ltb 5) (3 ∷ 5 ∷ [])
 unfolding first numbered
-none-large = first-none large (3 ∷ 5 ∷ []) tt refl
+none-large = first-none (ltb 5) (3 ∷ 5 ∷ []) tt refl
 
 -- of 3, 7 and 9 there is one
-pub not-none-large : None large numbers → ⊥
+pub not-none-large : None (ltb 5) numbers → ⊥
 unfolding among
 not-none-large n = true≢false (n .at 7 tt)
 
 -- it is 7
-pub seven-first : FirstOf large numbers 7
+pub seven-first : FirstOf (ltb 5) numbers 7
 unfolding first
-seven-first = first-of large numbers (λ e. omega arith)
+seven-first = first-of (ltb 5) numbers (λ e. omega arith)
 
--- and not 9, which is above 5 but comes later
-pub nine-not-first : FirstOf large numbers 9 → ⊥
+-- and no other: not 9, which comes later, nor 3, which is not above 5, nor 8, which is not in the list
+pub only-seven-first : (k : ℕ) → FirstOf (ltb 5) numbers k → 7 ≡ k
 unfolding first
-nine-not-first f = omega (arith, first-only large numbers 9 f)
-
--- nor 3, which comes earlier but is not above 5
-pub three-not-first : FirstOf large numbers 3 → ⊥
-three-not-first f = true≢false (sym (f .holds))
-
--- nor 8, which is not in the list
-pub eight-not-first : FirstOf large numbers 8 → ⊥
-unfolding first
-eight-not-first f = omega (arith, first-only large numbers 8 f)
+only-seven-first = first-only (ltb 5) numbers
 
 -- ---- a property of every element
 
@@ -58,8 +45,7 @@ all-below = all-cons {x = 3} (omega arith) (all-cons {x = 4} (omega arith) all-n
 
 -- 3, 7 and 9 are not
 pub not-all-below : All (λ x. x < 5) numbers → ⊥
-unfolding among
-not-all-below a = omega (arith, all-among 7 a tt)
+not-all-below (all-cons p (all-cons q a)) = omega arith
 
 -- ---- copies of the first two
 
@@ -73,13 +59,9 @@ lent = 7 ∷ 8 ∷ 9 ∷ []
 pub two-copied : Copied from 2 lent true (1 ∷ 2 ∷ 9 ∷ [])
 two-copied = record { fits = refl; stands = refl }
 
--- of one number not even it is copied
-pub too-few-copied : Copied {A = ℕ} (1 ∷ []) 2 lent false lent
-too-few-copied = record { fits = refl; stands = refl }
-
--- nor to one place
-pub too-few-lent : Copied {A = ℕ} from 2 (7 ∷ []) false (7 ∷ [])
-too-few-lent = record { fits = refl; stands = refl }
+-- of one number not even it is copied, nor to one place
+pub too-few : Copied {A = ℕ} (1 ∷ []) 2 lent false lent × Copied {A = ℕ} from 2 (7 ∷ []) false (7 ∷ [])
+too-few = (record { fits = refl; stands = refl }, record { fits = refl; stands = refl })
 
 -- what fits is not refused
 pub fits-not-refused : (left : List ℕ) → Copied from 2 lent false left → ⊥

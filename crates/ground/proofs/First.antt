@@ -1,13 +1,14 @@
 -- The first of a list of numbers whose test holds; what it means that none does; parts of a list.
-use mathlib.Core.Path.{_≡_, refl, sym, ap, ap₂, _∙_, subst}
-use mathlib.Core.Logic.{_≢_, _↔_, inl, inr}
-use mathlib.Core.Bool.{Bool, true, false, cond, _&&_, _||_}
-use mathlib.Core.List.{List, [], _∷_, _++_}
-use Prim.Native.Nat.{ℕ, _<_}
+use mathlib.Core.Path.{_≡_, refl, ap, _∙_}
+use mathlib.Core.Logic.{_≢_, inl, inr}
+use mathlib.Core.Bool.{Bool, true, false, _&&_}
+use mathlib.Core.List.{List, [], _∷_, _++_, append-nil}
+use Prim.Native.Nat.{ℕ}
 use native.Mathlib.Omega.{arith}
-use lib.Dec.{T, eqb, eqb-refl, ltb, eqb→eq, ltb→lt}
-use Rattle.ground.specs.Lists.{among}
+use lib.Dec.{T, eqb, ltb, eqb-refl, eqb→eq, ltb→lt}
+use Rattle.ground.specs.Lists.{some, among}
 use Rattle.ground.specs.First.{first, numbered, part, None, FirstOf}
+use Rattle.ground.proofs.Booleans.{truth, or-false}
 use Rattle.ground.proofs.Tests.{and-left, and-right, or-cases, or-left, or-right}
 
 module _ (test : ℕ → Bool) where
@@ -24,68 +25,41 @@ module _ (test : ℕ → Bool) where
     ];
   }
 
-  none-head : (k : ℕ) (ks : List ℕ) → None test (k ∷ ks) → test k ≡ false
+  none-parts : (k : ℕ) (ks : List ℕ) → None test (k ∷ ks) → (test k ≡ false) × None test ks
   unfolding among
-  none-head k ks n = n .at k (or-left (eqb k k) (among k ks) (eqb-refl k))
-
-  none-tail : (k : ℕ) (ks : List ℕ) → None test (k ∷ ks) → None test ks
-  unfolding among
-  none-tail k ks n = record { at = λ j t. n .at j (or-right (eqb j k) (among j ks) t) }
-
-  -- where no test holds the number is 0
-  pub none-zero : (ks : List ℕ) → None test ks → first test ks ≡ 0
-  unfolding first
-  none-zero [] n = refl
-  none-zero (k ∷ ks) n = rw (none-head k ks n) (none-zero ks (none-tail k ks n))
-
-  -- and where it is 0 none holds
-  pub first-none : (ks : List ℕ) → T (numbered ks) → first test ks ≡ 0 → None test ks
-  unfolding first numbered
-  first-none [] t e = none-nil
-  first-none (k ∷ ks) t e = go (test k) refl e (first-none ks (and-right (ltb 0 k) (numbered ks) t))
-    where
-      go : (b : Bool) → test k ≡ b → cond b k (first test ks) ≡ 0 → (first test ks ≡ 0 → None test ks) → None test (k ∷ ks)
-      go true f e later = absurd (let z = ltb→lt 0 k (and-left (ltb 0 k) (numbered ks) t) in omega arith)
-      go false f e later = none-cons k ks f (later e)
-
-  -- one that holds in the first part is the first of all
-  pub first-stop : (xs ys : List ℕ) → first test xs ≢ 0 → first test (xs ++ ys) ≡ first test xs
-  unfolding first
-  first-stop [] ys h = absurd (h refl)
-  first-stop (x ∷ xs) ys h = go (test x) h (first-stop xs ys)
-    where
-      go : (b : Bool) → (cond b x (first test xs) ≡ 0 → ⊥)
-          → (first test xs ≢ 0 → first test (xs ++ ys) ≡ first test xs)
-          → cond b x (first test (xs ++ ys)) ≡ cond b x (first test xs)
-      go true h later = refl
-      go false h later = later h
+  none-parts k ks n = (
+    n .at k (or-left (eqb k k) (among k ks) (eqb-refl k)),
+    record { at = λ j t. n .at j (or-right (eqb j k) (among j ks) t) },
+  )
 
   -- where none of the first part holds, it is the first of the rest
   pub none-first : (xs ys : List ℕ) → None test xs → first test (xs ++ ys) ≡ first test ys
   unfolding first
   none-first [] ys n = refl
-  none-first (x ∷ xs) ys n = rw (none-head x xs n) (none-first xs ys (none-tail x xs n))
+  none-first (x ∷ xs) ys n = let p = none-parts x xs n in rw (p .0) (none-first xs ys (p .1))
 
-  -- a number whose test does not hold may be put in anywhere
-  pub first-insert : (xs ys : List ℕ) (k : ℕ) → test k ≡ false → first test (xs ++ (k ∷ ys)) ≡ first test (xs ++ ys)
+  -- where no test holds the number is 0
+  pub none-zero : (ks : List ℕ) → None test ks → first test ks ≡ 0
   unfolding first
-  first-insert [] ys k e = rw e
-  first-insert (x ∷ xs) ys k e = ap (λ (n : ℕ). cond (test x) x n) (first-insert xs ys k e)
+  none-zero ks n = rw append-nil at (none-first ks [] n)
 
-  -- the first of the whole is the first of any part that keeps it
-  pub first-part : (keep : ℕ → Bool) (ks : List ℕ) → keep (first test ks) ≡ true
-      → first test (part keep ks) ≡ first test ks
-  unfolding first part
-  first-part keep [] e = refl
-  first-part keep (k ∷ ks) e = go (test k) refl (keep k) refl e (first-part keep ks)
-    where
-      go : (b : Bool) → test k ≡ b → (a : Bool) → keep k ≡ a → keep (cond b k (first test ks)) ≡ true
-          → (keep (first test ks) ≡ true → first test (part keep ks) ≡ first test ks)
-          → first test (cond a (k ∷ part keep ks) (part keep ks)) ≡ cond b k (first test ks)
-      go true f true g e later = rw f
-      go true f false g e later = absurd (subst T (sym e ∙ g) tt)
-      go false f true g e later = rw f (later e)
-      go false f false g e later = later e
+  -- and where it is 0 none holds
+  pub first-none : (ks : List ℕ) → T (numbered ks) → first test ks ≡ 0 → None test ks
+  unfolding first numbered
+  first-none [] t e = none-nil
+  first-none (k ∷ ks) t e = elim (truth (test k)) [
+    | inl f ↦ absurd (let z = ltb→lt 0 k (and-left (ltb 0 k) (numbered ks) t) in omega (arith, rw f at e))
+    | inr f ↦ none-cons k ks f (first-none ks (and-right (ltb 0 k) (numbered ks) t) (rw f at e))
+  ]
+
+  -- one that holds in the first part is the first of all
+  pub first-stop : (xs ys : List ℕ) → first test xs ≢ 0 → first test (xs ++ ys) ≡ first test xs
+  unfolding first
+  first-stop [] ys h = absurd (h refl)
+  first-stop (x ∷ xs) ys h = elim (truth (test x)) [
+    | inl f ↦ rw f
+    | inr f ↦ rw f (first-stop xs ys (rw f at h))
+  ]
 
   -- a number of which FirstOf tells is that number, so there is no other
   pub first-only : (ks : List ℕ) (k : ℕ) → FirstOf test ks k → first test ks ≡ k
@@ -97,26 +71,30 @@ module _ (test : ℕ → Bool) where
   pub first-of : (ks : List ℕ) → first test ks ≢ 0 → FirstOf test ks (first test ks)
   unfolding first
   first-of [] h = absurd (h refl)
-  first-of (k ∷ ks) h = go (test k) refl h (first-of ks)
-    where
-      go : (b : Bool) → test k ≡ b → cond b k (first test ks) ≢ 0 → (first test ks ≢ 0 → FirstOf test ks (first test ks))
-          → FirstOf test (k ∷ ks) (cond b k (first test ks))
-      go true e h later = record { before = []; after = ks; parts = refl; holds = e; none-before = none-nil }
-      go false e h later =
-          let p = later h in
-          record {
-            before = k ∷ p .before;
-            after = p .after;
-            parts = ap {B = List ℕ} (λ ys. k ∷ ys) (p .parts);
-            holds = p .holds;
-            none-before = none-cons k (p .before) e (p .none-before);
-          }
+  first-of (k ∷ ks) h = elim (truth (test k)) [
+    | inl f ↦ rw f (record { before = []; after = ks; parts = refl; holds = f; none-before = none-nil })
+    | inr f ↦
+        let p = first-of ks (rw f at h) in
+        rw f (record {
+          before = k ∷ p .before;
+          after = p .after;
+          parts = ap {B = List ℕ} (λ ys. k ∷ ys) (p .parts);
+          holds = p .holds;
+          none-before = none-cons k (p .before) f (p .none-before);
+        })
+  ]
 
 -- tests that agree find the same number
 pub first-cong : (test test′ : ℕ → Bool) → ((k : ℕ) → test k ≡ test′ k) → (ks : List ℕ) → first test ks ≡ first test′ ks
-unfolding first
-first-cong test test′ e [] = refl
-first-cong test test′ e (k ∷ ks) = ap₂ (λ (b : Bool) (n : ℕ). cond b k n) (e k) (first-cong test test′ e ks)
+first-cong test test′ e ks = λ i. first (λ k. e k i) ks
+
+-- where some test holding is excluded, none holds
+pub some-none : (test : ℕ → Bool) (ks : List ℕ) → some test ks ≡ false → None test ks
+unfolding some
+some-none test [] e = none-nil test
+some-none test (k ∷ ks) e =
+    let p = or-false (test k) (some test ks) e in
+    none-cons test k ks (p .0) (some-none test ks (p .1))
 
 -- every number of js stands in ks
 abbrev pub within : List ℕ → List ℕ → Bool
@@ -134,14 +112,10 @@ none-within test (j ∷ js) ks t n =
 pub among-part : (keep : ℕ → Bool) (ks : List ℕ) (k : ℕ) → T (among k (part keep ks)) → T (keep k) × T (among k ks)
 unfolding part among
 among-part keep [] k t = absurd t
-among-part keep (x ∷ ks) k t = go (keep x) refl t (among-part keep ks k)
-  where
-    go : (b : Bool) → keep x ≡ b → T (among k (cond b (x ∷ part keep ks) (part keep ks)))
-        → (T (among k (part keep ks)) → T (keep k) × T (among k ks)) → T (keep k) × T (eqb k x || among k ks)
-    go true e t later = elim (or-cases (eqb k x) (among k (part keep ks)) t) [
-      | inl q ↦
-          let same = eqb→eq k x q in
-          (subst (λ (j : ℕ). T (keep j)) (sym same) (subst T (sym e) tt), or-left (eqb k x) (among k ks) q)
-      | inr q ↦ let p = later q in (p .0, or-right (eqb k x) (among k ks) (p .1))
-    ]
-    go false e t later = let p = later t in (p .0, or-right (eqb k x) (among k ks) (p .1))
+among-part keep (x ∷ ks) k t = elim (truth (keep x)) [
+  | inl f ↦ elim (or-cases (eqb k x) (among k (part keep ks)) (rw f at t)) [
+    | inl q ↦ (rw (eqb→eq k x q, f) tt, or-left (eqb k x) (among k ks) q)
+    | inr q ↦ let p = among-part keep ks k q in (p .0, or-right (eqb k x) (among k ks) (p .1))
+  ]
+  | inr f ↦ let p = among-part keep ks k (rw f at t) in (p .0, or-right (eqb k x) (among k ks) (p .1))
+]

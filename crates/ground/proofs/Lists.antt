@@ -1,25 +1,20 @@
 -- Lists that are mapped and joined, and elements of them.
-use mathlib.Core.Path.{_≡_, refl, sym, ap, ap₂, _∙_, subst}
+use mathlib.Core.Path.{_≡_, refl, sym, ap, _∙_}
 use mathlib.Core.Logic.{inl, inr}
-use mathlib.Core.Bool.{Bool, false, _&&_, _||_}
+use mathlib.Core.Bool.{Bool}
 use mathlib.Core.List.{List, [], _∷_, _++_, map, append-nil, append-assoc}
 use Prim.Native.Nat.{ℕ, zero, suc, _+_, _*_, _<_}
 use native.Mathlib.Nat.{zero-mul, not-suc-le-zero, le-of-suc-le-suc}
 use native.Mathlib.Omega.{arith}
 use lib.Dec.{T, eqb, eqb-refl}
-use lib.ListN.{length, getD, take, drop, replicate, length-append, List·getD-append}
-use lib.Seq.{getD-append-add, take-at, drop-append-add}
+use lib.ListN.{length, getD, take, drop, replicate, length-append}
+use lib.Seq.{getD-take, getD-drop, take-at, drop-append-add}
 use Rattle.ground.specs.Lists.{join, some, each, among}
-use Rattle.ground.proofs.Booleans.{or-false}
 use Rattle.ground.proofs.Tests.{and-left, and-right, or-cases, or-left, or-right}
 
 -- ---- lists that are mapped
 
 module _ {A B : Type 0} (f : A → B) where
-  pub map-append : (xs ys : List A) → map f (xs ++ ys) ≡ map f xs ++ map f ys
-  map-append [] ys = refl
-  map-append (x ∷ xs) ys = ap {B = List B} (λ l. f x ∷ l) (map-append xs ys)
-
   -- an element; past the end x and y stand
   pub map-at : (xs : List A) (i : ℕ) (x : A) (y : B) → i < length xs → getD (map f xs) i y ≡ f (getD xs i x)
   map-at [] i x y h = absurd (not-suc-le-zero h)
@@ -39,8 +34,7 @@ module _ {A B : Type 0} (f : A → B) where
 pub all-ones : {A : Type 0} (f : A → ℕ) (xs : List A) (x : A) → ((i : ℕ) → i < length xs → f (getD xs i x) ≡ 1)
     → map f xs ≡ replicate (length xs) 1
 all-ones f [] x h = refl
-all-ones f (y ∷ xs) x h =
-    ap₂ {C = List ℕ} (λ y ys. y ∷ ys) (h 0 (omega arith)) (all-ones f xs x (λ i k. h (suc i) (omega arith)))
+all-ones f (y ∷ xs) x h = rw (h 0 (omega arith), all-ones f xs x (λ i k. h (suc i) (omega arith)))
 
 -- ---- tests over a list
 
@@ -50,14 +44,6 @@ unfolding among
 among-at f [] x i h = absurd (not-suc-le-zero h)
 among-at f (y ∷ xs) x zero h = or-left (eqb (f y) (f y)) _ (eqb-refl (f y))
 among-at f (y ∷ xs) x (suc i) h = or-right (eqb (f (getD xs i x)) (f y)) _ (among-at f xs x i (le-of-suc-le-suc h))
-
--- where some element passing is excluded, none passes
-pub some-false : {A : Type 0} (test : A → Bool) (xs : List A) (x : A) (i : ℕ) → some test xs ≡ false → i < length xs
-    → test (getD xs i x) ≡ false
-unfolding some
-some-false test [] x i e h = absurd (not-suc-le-zero h)
-some-false test (y ∷ xs) x zero e h = or-false (test y) (some test xs) e .0
-some-false test (y ∷ xs) x (suc i) e h = some-false test xs x i (or-false (test y) (some test xs) e .1) (le-of-suc-le-suc h)
 
 -- What is told of each element, and carries over from an element that is found to what was looked for, holds of that.
 pub at-some : {A : Type 0} (P : Type 0) (found test : A → Bool) → ((x : A) → T (found x) → T (test x) → P)
@@ -78,17 +64,14 @@ module _ {A B : Type 0} (f : A → List B) where
   unfolding join
   join-next [] j x h = absurd (not-suc-le-zero h)
   join-next (y ∷ xs) zero x h = append-nil (f y)
-  join-next (y ∷ xs) (suc j) x h =
-      ap (λ (l : List B). f y ++ l) (join-next xs j x (le-of-suc-le-suc h))
-      ∙ sym (append-assoc (f y) (join (map f (take j xs))) (f (getD xs j x)))
+  join-next (y ∷ xs) (suc j) x h = rw (join-next xs j x (le-of-suc-le-suc h), append-assoc)
 
   pub length-join : (xs : List A) (x : A) (w : ℕ) → ((j : ℕ) → j < length xs → length (f (getD xs j x)) ≡ w)
       → length (join (map f xs)) ≡ length xs * w
   unfolding join
   length-join [] x w h = sym (zero-mul w)
   length-join (y ∷ xs) x w h =
-      length-append (f y) (join (map f xs))
-      ∙ omega (arith, h 0 (omega arith), length-join xs x w (λ j k. h (suc j) (omega arith)))
+      rw length-append (omega (arith, h 0 (omega arith), length-join xs x w (λ j k. h (suc j) (omega arith))))
 
   pub join-part : (xs : List A) (x : A) (w : ℕ) → ((j : ℕ) → j < length xs → length (f (getD xs j x)) ≡ w)
       → (j : ℕ) → j < length xs → take w (drop (j * w) (join (map f xs))) ≡ f (getD xs j x)
@@ -101,12 +84,6 @@ module _ {A B : Type 0} (f : A → List B) where
 
   pub join-entry : (xs : List A) (x : A) (z : B) (w : ℕ) → ((j : ℕ) → j < length xs → length (f (getD xs j x)) ≡ w)
       → (j i : ℕ) → j < length xs → i < w → getD (join (map f xs)) (j * w + i) z ≡ getD (f (getD xs j x)) i z
-  unfolding join
-  join-entry [] x z w l j i h k = absurd (not-suc-le-zero h)
-  join-entry (y ∷ xs) x z w l zero i h k =
-      ap (λ (n : ℕ). getD (f y ++ join (map f xs)) n z) (omega arith)
-      ∙ List·getD-append (f y) (join (map f xs)) z i (omega (arith, l 0 (omega arith)))
-  join-entry (y ∷ xs) x z w l (suc j) i h k =
-      ap (λ (n : ℕ). getD (f y ++ join (map f xs)) n z) (omega (arith, l 0 (omega arith)))
-      ∙ getD-append-add (f y) (join (map f xs)) (j * w + i) z
-      ∙ join-entry xs x z w (λ m p. l (suc m) (omega arith)) j i (omega arith) k
+  join-entry xs x z w l j i h k =
+      sym (getD-take w _ i z k ∙ getD-drop (j * w) (join (map f xs)) i z)
+      ∙ ap (λ ys. getD ys i z) (join-part xs x w l j h)

@@ -1,7 +1,5 @@
 -- The public function has one outcome on every input.
-use mathlib.Core.Path.{_≡_, refl, sym, ap₂, _∙_}
-use mathlib.Core.Bool.{Bool}
-use mathlib.Core.List.{List}
+use mathlib.Core.Path.{refl, sym, _∙_}
 use denote.Ref.{now}
 use Rattle.ground.specs.Unique.{UniqueLeft}
 use Rattle.ground.proofs.copy.Reads as copy

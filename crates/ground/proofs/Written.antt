@@ -1,13 +1,13 @@
 -- A lent list d over which a list s of n elements is written, from the front or from a place on: what stands there after
 -- i stores. Over any type of element.
-use mathlib.Core.Path.{_≡_, sym, ap, _∙_}
-use mathlib.Core.List.{List, _++_, append-assoc}
+use mathlib.Core.Path.{_≡_, _∙_}
+use mathlib.Core.List.{List, _++_}
 use Prim.Native.Nat.{ℕ, _+_, _<_, _≤_}
 use native.Mathlib.Nat.{zero-add}
 use native.Mathlib.Numerals.{add-one}
 use native.Mathlib.Omega.{arith}
 use lib.ListN.{length, take, drop, set, getD, length-append}
-use lib.Seq.{paste, paste-suc, take-at, take-all, take-append-le, take-append-add}
+use lib.Seq.{paste, paste-suc, take-all, take-append-le, take-append-add}
 
 module _ {A : Type 0} where
   -- one store more, from place `at` on
@@ -30,13 +30,9 @@ module _ {A : Type 0} where
       → o ≡ s ++ drop n d
   stored-all d s n i q l e = q ∙ rw (e, take-all n s (omega arith))
 
-  -- what stands in front of s
-  pub front-kept : {o : List A} (p s t : List A) (n : ℕ) → o ≡ p ++ s ++ t → length p ≡ n → take n o ≡ p
-  front-kept p s t n q e = ap (take n) (q ∙ append-assoc p s t) ∙ take-at p (s ++ t) n e
-
   -- s stands after p, and w of it are read
   pub take-over : {o : List A} (p s t : List A) (n w : ℕ) → o ≡ p ++ s ++ t → length p ≡ n → w ≤ length s
       → take (n + w) o ≡ p ++ take w s
   take-over {o} p s t n w q e h =
       let long : length p + w ≤ length (p ++ s) = rw length-append (omega arith) in
-      ap (λ (m : ℕ). take (m + w) o) (sym e) ∙ rw q (take-append-le (length p + w) (p ++ s) t long) ∙ take-append-add p s w
+      rw (q, ← e, take-append-le (length p + w) (p ++ s) t long) (take-append-add p s w)

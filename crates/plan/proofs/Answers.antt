@@ -15,13 +15,10 @@ record-number : (a : Record) (k : ℕ) → a .refusal ≡ 0 → recordOf a k .re
 record-number a zero e = e
 record-number a (suc k) e = refl
 
-record-refused : (a : Record) (k : ℕ) → k ≢ 0 → refused k ≡ recordOf a k
-record-refused a zero h = absurd (h refl)
-record-refused a (suc k) h = refl
-
-buffer-refused : {A : Type 0} (k : ℕ) (answer lent : List A) → k ≢ 0 → bufferOf k answer lent ≡ lent
-buffer-refused zero answer lent h = absurd (h refl)
-buffer-refused (suc k) answer lent h = refl
+by-refusal : {A : Type 0} (a : Record) (k : ℕ) (answer lent : List A) → k ≢ 0
+    → (bufferOf k answer lent ≡ lent) × (recordOf a k ≡ refused k)
+by-refusal a zero answer lent h = absurd (h refl)
+by-refusal a (suc k) answer lent h = (refl, refl)
 
 -- two outcomes of a call are one
 pub one-answer : {A : Type 0} {k : ℕ} {a : Record} {answer lent : List A}
@@ -35,10 +32,9 @@ module _ {A : Type 0} {k : ℕ} {a : Record} (fresh : a .refusal ≡ 0) {answer 
   number-given = ap (λ (x : Record). x .refusal) (call .record-is) ∙ record-number a k fresh
 
   pub as-refused : given .refusal ≢ 0 → (left ≡ lent) × (given ≡ refused (given .refusal))
-  as-refused h = (
-    call .buffer-is ∙ buffer-refused k answer lent (λ z. h (number-given ∙ z)),
-    call .record-is ∙ sym (record-refused a k (λ z. h (number-given ∙ z))) ∙ ap refused (sym number-given),
-  )
+  as-refused h =
+      let p = by-refusal a k answer lent (λ z. h (number-given ∙ z)) in
+      (call .buffer-is ∙ p .0, call .record-is ∙ p .1 ∙ ap refused (sym number-given))
 
   pub as-accepted : given .refusal ≡ 0 → (n : ℕ) → length answer ≡ n → (left ≡ answer ++ drop n lent) × (given ≡ a)
   as-accepted e n l =
@@ -69,7 +65,7 @@ module _ (k : ℕ) (a : Record) (fresh : a .refusal ≡ 0) (s : Drawing) {c : Ju
   pub answers-refused : {A : Type 0} (answer lent : List A) → c .given .refusal ≢ 0 → Answers k a answer lent (c .given) lent
   answers-refused answer lent h = record {
     record-is = given-is;
-    buffer-is = sym (buffer-refused k answer lent (λ z. h (number-is ∙ z)));
+    buffer-is = sym (by-refusal a k answer lent (λ z. h (number-is ∙ z)) .0);
   }
 
   module _ (z : c .given .refusal ≡ 0) where

@@ -1,59 +1,73 @@
 -- Every lawful codebook answers for the demands.
-use mathlib.Core.Path.{_≡_, refl, sym, subst}
-use mathlib.Core.Logic.{_↔_}
-use mathlib.Core.List.{List}
-use Prim.Native.Nat.{ℕ}
+use mathlib.Core.Path.{_≡_, refl, sym, ap, _∙_, subst₂}
+use mathlib.Core.List.{List, map-id}
+use Prim.Native.Nat.{ℕ, _+_, _*_}
 use native.Mathlib.Omega.{arith}
-use Rattle.ground.specs.First.{None, FirstOf}
+use lib.ListN.{replicate}
+use Rattle.ground.proofs.First.{first-of, none-zero}
+use Rattle.ground.proofs.Lists.{all-ones, among-at}
+use Rattle.turn.specs.Exact.{Orthogonal}
+use Rattle.turn.proofs.Cancel.{cancels-orthogonal}
 use Rattle.weight.proofs.Rules.{power-lowest, power-highest}
-use Rattle.plan.specs.Answer.{Codebook, asked, test}
+use Rattle.plan.specs.Plan.{Layer, past}
+use Rattle.plan.specs.Masks.{bit}
+use Rattle.plan.specs.Answer.{Codebook, refusal}
 use Rattle.plan.specs.Lawful.{Lawful}
 use Rattle.plan.specs.Demands.{Demanded}
-use Rattle.plan.proofs.Answers.{one-answer, as-refused, as-accepted}
+use Rattle.plan.proofs.Answers.{number-given, one-answer, as-refused, as-accepted}
 use Rattle.plan.proofs.Matrix as plans
 use Rattle.plan.proofs.Calls as calls
 
 pub demanded : {R : Type 0} (b : Codebook R) {InRange : R → Type 0} (order : List ℕ) → b .order ≡ order → Lawful b InRange
     → (r : R) (mask : List ℕ) (ranks : ℕ) → Demanded b InRange order r mask ranks
+unfolding refusal
 demanded b order same lawful r mask ranks = record {
   every-input-answered = λ room answer lent. record { record-is = refl; buffer-is = refl };
   answered-once = λ room. one-answer;
   refusals-in-order = same;
-  first-fault-given = λ room {given} call h.
-      subst (λ (ks : List ℕ). FirstOf (test b (asked r mask ranks room)) ks (given .refusal)) same
-      (calls.first-fault b lawful r mask ranks room call h);
+  first-fault-given = λ room call h.
+      let e = number-given refl call in
+      rw (← same, e) (first-of _ (b .order) (λ z. h (e ∙ z)));
   refused-as-lent = λ room call. as-refused refl call;
   accepted-in-range = λ room call. calls.in-range b lawful r mask ranks room call;
-  accepted-as-matrix = λ call e. (
-    calls.left-matrix b lawful r mask ranks call e,
-    calls.entries b lawful r mask ranks call e,
-    as-accepted refl call e _ refl .1,
-  );
-  accepted-exactly = λ room {given} call.
-      subst (λ (ks : List ℕ). given .refusal ≡ 0 ↔ None (test b (asked r mask ranks room)) ks) same
-      (calls.accepted-exactly b lawful r mask ranks room call);
-  bits-read-are-one = λ room call. calls.bits-read b lawful r mask ranks room call;
-  layers-not-barred = λ room call. calls.layers-read b lawful r mask ranks room call;
-  accepted-as-weights = λ call e. (
-    calls.left-weights b lawful r mask ranks call e,
-    calls.length-weights b lawful r mask ranks call e,
-    as-accepted refl call e _ refl .1,
-  );
+  accepted-as-matrix = λ call e.
+      let long = calls.entries b lawful r mask ranks _ call e in
+      let p = as-accepted refl call e _ long in
+      (p .0, long, p .1);
+  accepted-exactly = λ room call.
+      rw (← same)
+      (calls.none-of b lawful r mask ranks room call, λ n. number-given refl call ∙ none-zero _ (b .order) n);
+  bits-read-are-one = λ room call e.
+      all-ones (bit mask) (b .bitsRead r) 0
+      (λ i h. calls.read-one b lawful r mask ranks room call e _ (rw map-id at (among-at (λ k. k) (b .bitsRead r) 0 i h)));
+  layers-not-barred = λ room call e h.
+      let range = calls.in-range b lawful r mask ranks room call e in
+      let many = lawful .sound r range .many in
+      all-ones (λ (x : Layer). bit mask (b .width r * x .l + x .m)) (b .plan r .layers) past
+      (λ j k. calls.read-one b lawful r mask ranks room call e _ (lawful .reads r range h j (omega (arith, many))))
+      ∙ ap (λ (n : ℕ). replicate n 1) many;
+  accepted-as-weights = λ call e.
+      let long = calls.length-weights b lawful r mask ranks call e in
+      let p = as-accepted refl call e _ long in
+      (p .0, long, p .1);
   weights-of-phases = λ call. calls.left-weight b lawful r mask ranks call;
   layers-orthogonal = λ room call e. plans.layers-orthogonal (b .plan r) (calls.sound b lawful r mask ranks room call e);
-  buffer-orthogonal = λ call. calls.buffer-orthogonal b lawful r mask ranks call;
-  cross-sums-small = λ call. calls.cross-sums b lawful r mask ranks call;
+  buffer-orthogonal = λ call e j k h i ne.
+      let column = calls.left-layer b lawful r mask ranks call e in
+      subst₂ Orthogonal (sym (column j h)) (sym (column k i))
+      (cancels-orthogonal _ _ (plans.layers-cancel (b .plan r) (calls.sound b lawful r mask ranks _ call e) j k h i ne));
+  cross-sums-small = λ call e j k h i ne.
+      let column = calls.left-layer-weights b lawful r mask ranks call e in
+      rw (column j h, column k i)
+      (plans.cross-small (b .plan r) (calls.sound b lawful r mask ranks _ call e) j k h i ne);
   powers-near = λ call e i h.
       let p = calls.powers b lawful r mask ranks call e i h in
       record { low = omega arith; high = omega arith };
   powers-within = λ call. calls.powers b lawful r mask ranks call;
   port-power = λ call. calls.port-power b lawful r mask ranks call;
   ports-differ = λ call e q q′ h h′.
-      omega (
-        arith,
-        calls.port-power b lawful r mask ranks call e q h .high,
-        calls.port-power b lawful r mask ranks call e q′ h′ .low,
-      );
+      let p = calls.port-power b lawful r mask ranks call e in
+      omega (arith, p q h .high, p q′ h′ .low);
   power-limits-occur = (power-lowest, power-highest);
   room-for-weights = λ lent n. (λ h. omega arith, λ h. omega arith);
 }

@@ -1,12 +1,11 @@
--- Layer j of a list that has p entries to a layer: with more after the list, and of a list that is mapped.
+-- Layer j of a list that has p entries to a layer, with more after the list.
 use mathlib.Core.Path.{_≡_, ap, _∙_}
-use mathlib.Core.List.{List, _++_, map}
+use mathlib.Core.List.{List, _++_}
 use Prim.Native.Nat.{ℕ, _*_, _<_}
 use native.Mathlib.Nat.{mul-le-mul-right}
 use native.Mathlib.Omega.{arith}
 use lib.ListN.{length, take, drop, length-drop}
 use lib.Seq.{drop-append-le, take-append-le}
-use Rattle.ground.proofs.Lists.{drop-map, take-map}
 use Rattle.plan.specs.Plan.{layer}
 
 -- one of the v layers of xs
@@ -15,6 +14,3 @@ pub layer-before : {A : Type 0} (p v j : ℕ) (xs ys : List A) → j < v → len
 layer-before p v j xs ys h e =
     ap (take p) (drop-append-le (j * p) xs ys (omega (arith, mul-le-mul-right p h)))
     ∙ take-append-le p (drop (j * p) xs) ys (rw length-drop (omega (arith, mul-le-mul-right p h)))
-
-pub layer-map : {A B : Type 0} (f : A → B) (p j : ℕ) (xs : List A) → layer p j (map f xs) ≡ map f (layer p j xs)
-layer-map f p j xs = ap (take p) (drop-map f (j * p) xs) ∙ take-map f p (drop (j * p) xs)

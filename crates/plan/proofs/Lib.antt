@@ -1,7 +1,6 @@
 -- The laws, from the ground up; `Demands` is what codebooks come for.
 pub mod Unique
 pub mod Layers
-pub mod Bits
 pub mod Matrix
 pub mod Answers
 pub mod Calls

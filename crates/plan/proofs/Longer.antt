@@ -1,7 +1,7 @@
 -- A longer buffer gets the same record and the same answer, and keeps its rest; and every layer in it has P entries.
 use mathlib.Core.Path.{_≡_, refl, sym, ap, _∙_}
 use mathlib.Core.List.{List, _++_, append-assoc}
-use Prim.Native.Nat.{ℕ, _*_, _<_, _≤_}
+use Prim.Native.Nat.{ℕ, _<_, _≤_}
 use native.Mathlib.Omega.{arith}
 use lib.IntN.{ℤ}
 use lib.ListN.{length, drop, length-append, length-map}
@@ -11,7 +11,7 @@ use Rattle.plan.specs.declared.Record.{Record}
 use Rattle.plan.specs.Plan.{layerAt, columnOf, layer}
 use Rattle.plan.specs.Answer.{Codebook, Called, Phases, Weights}
 use Rattle.plan.specs.Lawful.{Lawful}
-use Rattle.plan.proofs.Matrix.{layer-long, matrix-layer}
+use Rattle.plan.proofs.Matrix.{layer-long}
 use Rattle.plan.proofs.Answers.{number-given, as-accepted}
 use Rattle.plan.proofs.Masked.{more-room}
 use Rattle.plan.proofs.Calls.{sound, fits, entries, left-layer, length-weights, left-layer-weights}
@@ -39,15 +39,14 @@ module _ {R : Type 0} (b : Codebook R) {InRange : R → Type 0} (lawful : Lawful
     pub longer-phases : {given′ : Record} {left′ : List ℕ} (more : List ℕ)
         → Phases b r mask ranks (lent ++ more) given′ left′ → (given′ ≡ given) × (left′ ≡ left ++ more)
     longer-phases more call′ =
-        longer more _ (entries b lawful r mask ranks call e) (fits b lawful r mask ranks _ call e)
+        longer more _ (entries b lawful r mask ranks _ call e) (fits b lawful r mask ranks _ call e)
         (simp length-append (omega arith)) call call′ e
 
     -- every layer in the buffer has an entry for each port, so that what is said of two layers is said of P entries each
     pub layers-whole : (j : ℕ) → j < b .plan r .v → length (layer (b .plan r .ports) j left) ≡ b .plan r .ports
     layers-whole j h =
-        let s = sound b lawful r mask ranks _ call e in
-        ap length (left-layer b lawful r mask ranks call e j h ∙ matrix-layer (b .plan r) s j h)
-        ∙ layer-long (b .plan r) s j h
+        ap length (left-layer b lawful r mask ranks call e j h)
+        ∙ layer-long (b .plan r) (sound b lawful r mask ranks _ call e) j h
 
   module _ {lent : List ℤ} {given : Record} {left : List ℤ}
       (call : Weights b r mask ranks lent given left) (e : given .refusal ≡ 0) where

@@ -1,11 +1,11 @@
 -- What a mask and the room do to a refusal, for any codebook.
-use mathlib.Core.Path.{_≡_, refl, ap, ap₂}
-use mathlib.Core.Bool.{Bool, true, false, cond, _||_}
+use mathlib.Core.Path.{_≡_, refl}
+use mathlib.Core.Bool.{Bool, true, false, cond}
 use mathlib.Core.List.{List, [], _∷_, map}
 use Prim.Native.Nat.{ℕ, _*_, _≤_}
 use native.Mathlib.Omega.{arith}
 use lib.Dec.{T, eqb, ltb}
-use lib.ListN.{length, drop, getD}
+use lib.ListN.{length}
 use borrow.Author.Tests.{le-ltb, ltb-false}
 use Rattle.ground.specs.Lists.{some}
 use Rattle.ground.specs.First.{numbered}
@@ -13,19 +13,14 @@ use Rattle.ground.proofs.First.{first-none, none-zero, first-cong}
 use Rattle.plan.specs.Masks.{bit, isZero, barred}
 use Rattle.plan.specs.Answer.{asked, Codebook, test, refusal}
 
--- the heads and the tails of two lists that are one
-head-same : {x y : ℕ} {xs ys : List ℕ} → _≡_ {A = List ℕ} (x ∷ xs) (y ∷ ys) → x ≡ y
-head-same {x} e = ap (λ (zs : List ℕ). getD zs 0 x) e
-
-tail-same : {x y : ℕ} {xs ys : List ℕ} → _≡_ {A = List ℕ} (x ∷ xs) (y ∷ ys) → xs ≡ ys
-tail-same e = ap (λ (zs : List ℕ). drop 1 zs) e
-
 -- masks that agree on the bits that are read bar alike
 barred-same : (mask mask′ ks : List ℕ) → map (bit mask) ks ≡ map (bit mask′) ks → barred mask ks ≡ barred mask′ ks
 unfolding barred some isZero
 barred-same mask mask′ [] e = refl
 barred-same mask mask′ (k ∷ ks) e =
-    ap₂ (λ (n : ℕ) (b : Bool). eqb n 0 || b) (head-same e) (barred-same mask mask′ ks (tail-same e))
+    let one : bit mask k ≡ bit mask′ k = cc in
+    let others : map (bit mask) ks ≡ map (bit mask′) ks = cc in
+    rw (one, barred-same mask mask′ ks others)
 
 module _ {R : Type 0} (b : Codebook R) (r : R) where
   -- a refusal depends on the mask by its length and the bits that the report reads alone

@@ -1,23 +1,24 @@
 -- The matrix of a sound plan: its length, its layers, and what any two of them sum to.
 use mathlib.Core.Path.{_≡_, sym, ap, ap₂, _∙_, subst, subst₂}
 use mathlib.Core.Logic.{_≢_}
-use mathlib.Core.List.{List, map}
+use mathlib.Core.List.{List}
 use Prim.Native.Nat.{ℕ, _+_, _*_, _/_, _<_, _≤_}
 use native.Mathlib.Nat.{mod-eq-of-lt}
 use native.Mathlib.Omega.{arith}
 use lib.IntN.{natAbs}
 use lib.Arith.{digits-lt}
-use lib.ListN.{length, getD, length-map}
+use lib.ListN.{length, getD}
+use Rattle.ground.proofs.Lists.{length-join, join-part, join-entry}
 use Rattle.turn.specs.Phase.{turn, phase}
-use Rattle.turn.specs.Column.{Setting, Divides, product, beam, column}
+use Rattle.turn.specs.Column.{Setting, Divides, beam, column}
 use Rattle.turn.specs.Exact.{differences, Orthogonal}
-use Rattle.turn.proofs.Lists.{length-product, length-beam}
-use Rattle.turn.proofs.Entries.{beam-reduced, entry}
 use Rattle.turn.specs.Cancel.{Cancels}
+use Rattle.turn.proofs.Lists.{length-beam}
+use Rattle.turn.proofs.Columns.{length-column}
+use Rattle.turn.proofs.Entries.{beam-reduced, entry}
 use Rattle.turn.proofs.Cancel.{cancels-orthogonal, opposites-cancel, beams-cancel}
 use Rattle.weight.specs.Products.{re, im, limit}
 use Rattle.weight.proofs.CrossSum.{between, cross-bound}
-use Rattle.ground.proofs.Lists.{length-join, join-part, join-entry}
 use Rattle.plan.specs.Plan.{Layer, Plan, past, layerAt, columnOf, matrix, layer}
 use Rattle.plan.specs.Sound.{Moved, Told, by-co-phases, by-beams, Sound}
 
@@ -43,17 +44,10 @@ told-cancels c whole x y (by-beams l m j1 j2 k1 k2 h h′ apart coarse) =
 -- ---- a sound plan
 
 module _ (p : Plan) (s : Sound p) where
-  length-column : (x : Layer) → length (columnOf p x) ≡ length (x .co) * (p .block .n1 * p .block .n2)
-  unfolding columnOf column
-  length-column x =
-      length-map (product (x .co) (blockOf (p .block) x)) phase
-      ∙ length-product (x .co) (blockOf (p .block) x)
-      ∙ ap (λ (n : ℕ). length (x .co) * n) (length-beam (p .block) (x .l) (x .m))
-
   -- an entry for each port
   pub layer-long : (j : ℕ) → j < p .v → length (columnOf p (layerAt p j)) ≡ p .ports
-  layer-long j h =
-      length-column (layerAt p j) ∙ ap (λ (n : ℕ). n * (p .block .n1 * p .block .n2)) (s .long j h) ∙ s .all
+  unfolding columnOf
+  layer-long j h = length-column _ _ ∙ ap₂ _*_ (s .long j h) (length-beam (p .block) _ _) ∙ s .all
 
   each-long : (j : ℕ) → j < length (p .layers) → length (columnOf p (layerAt p j)) ≡ p .ports
   each-long j h = layer-long j (omega (arith, s .many))

@@ -1,6 +1,6 @@
 -- Two beams of one setting that lie whole multiples of the oversampling apart, over N1 and N2.
 use mathlib.Core.Path.{_≡_, sym, _∙_}
-use mathlib.Core.Logic.{_≢_, _⊎_, inl, inr}
+use mathlib.Core.Logic.{_≢_, inl, inr}
 use mathlib.Core.List.{List, map}
 use Prim.Native.Nat.{ℕ, _+_, _*_, _/_, _%_}
 use lib.ListN.{length}
@@ -8,8 +8,8 @@ use Rattle.turn.specs.Apart.{Apart, Common}
 use Rattle.turn.specs.Phase.{turn, phase}
 use Rattle.turn.specs.Column.{Setting, Divides, steps, product, beam}
 use Rattle.turn.specs.Exact.{differences}
-use Rattle.turn.proofs.Lists.{length-beam}
 use Rattle.turn.specs.Cancel.{Invariant}
+use Rattle.turn.proofs.Lists.{length-beam}
 use Rattle.turn.proofs.Invariant.{invariant-left, invariant-right, invariant-phases, invariant-steps}
 use Rattle.turn.proofs.Differences.{differences-grid}
 use Rattle.turn.proofs.Steps.{gap, step-gap, gap-round, gap-some, gap-multiple}
@@ -21,6 +21,11 @@ pub record Turned (c : Setting) (xs : List ℕ) : Type 0 where
   pub some : phase by ≢ 0
   pub multiple : {m : ℕ} → Common c m → by % m ≡ 0
   pub invariant : Invariant by xs
+
+-- the phases of n gaps come round
+round : (n o : ℕ) (whole : n * o * (turn / (n * o)) ≡ turn) (j k : ℕ)
+    → Invariant (gap n o whole j k) (map phase (steps n (gap n o whole j k)))
+round n o whole j k = invariant-phases (invariant-steps n _ (gap-round n o whole j k))
 
 module _ (c : Setting) (whole : Divides c) (l m j1 j2 k1 k2 : ℕ) where
   abbrev pub first : List ℕ
@@ -45,28 +50,18 @@ module _ (c : Setting) (whole : Divides c) (l m j1 j2 k1 k2 : ℕ) where
       differences-grid _ _ _ gap1 _ _ _ gap2
       (step-gap (c .n1) (c .o1) (whole .rows) l j1 k1) (step-gap (c .n2) (c .o2) (whole .columns) m j2 k2)
 
-  by-rows : phase (c .n1 * gap1) ≡ 0 → Invariant gap1 (differences first second)
-  by-rows h =
-      rw differences-beams
-      (invariant-phases (invariant-left _ (invariant-phases (invariant-steps (c .n1) gap1 h))))
-
-  by-columns : phase (c .n2 * gap2) ≡ 0 → Invariant gap2 (differences first second)
-  by-columns h =
-      rw differences-beams
-      (invariant-phases (invariant-right _ (invariant-phases (invariant-steps (c .n2) gap2 h))))
-
   pub beams-turned : Apart c j1 j2 k1 k2 → Turned c (differences first second)
   beams-turned a = elim a [
     | inl ne ↦ record {
       by = gap1;
       some = gap-some (c .n1) (c .o1) (whole .rows) j1 k1 ne;
       multiple = λ h. gap-multiple (c .n1) (c .o1) (whole .rows) _ j1 k1 (h .rows);
-      invariant = by-rows (gap-round (c .n1) (c .o1) (whole .rows) j1 k1);
+      invariant = rw differences-beams (invariant-phases (invariant-left _ (round (c .n1) (c .o1) (whole .rows) j1 k1)));
     }
     | inr ne ↦ record {
       by = gap2;
       some = gap-some (c .n2) (c .o2) (whole .columns) j2 k2 ne;
       multiple = λ h. gap-multiple (c .n2) (c .o2) (whole .columns) _ j2 k2 (h .columns);
-      invariant = by-columns (gap-round (c .n2) (c .o2) (whole .columns) j2 k2);
+      invariant = rw differences-beams (invariant-phases (invariant-right _ (round (c .n2) (c .o2) (whole .columns) j2 k2)));
     }
   ]

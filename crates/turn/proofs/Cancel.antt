@@ -7,21 +7,17 @@ use mathlib.Core.List.{List, map}
 use Prim.Native.Nat.{ℕ, _+_, _*_}
 use native.Mathlib.Omega.{arith}
 use lib.ListN.{length}
-use Rattle.turn.specs.Cancel.{Coarse, Cancels, opposites, thirds}
+use Rattle.turn.specs.Cancel.{Coarse, Cancels, opposites, thirds, Invariant}
 use Rattle.turn.specs.Phase.{half, third, twelfth, phase}
 use Rattle.turn.specs.Column.{Setting, Divides, beam, column}
 use Rattle.turn.specs.Exact.{differences, Orthogonal}
-use Rattle.turn.specs.Cancel.{Invariant}
+use Rattle.turn.specs.Apart.{Apart, Common, flipped, Even}
 use Rattle.turn.proofs.Zero.{to-half, half-or-third}
 use Rattle.turn.proofs.Differences.{differences-column}
 use Rattle.turn.proofs.Steps.{gap-multiple}
-use Rattle.turn.specs.Apart.{Apart, Common}
 use Rattle.turn.proofs.Beams.{same-length, differences-beams, beams-turned}
-use Rattle.turn.specs.Apart.{flipped, Even}
-use Rattle.turn.proofs.Opposites.{opposites-invariant}
-use Rattle.turn.specs.Cancel.{Multiples}
+use Rattle.turn.proofs.Orthogonal.{opposites-invariant, orthogonal-turned, turned-by-beams, turned-by-co-phases}
 use Rattle.turn.proofs.Multiples.{multiples-steps, multiples-product, multiples-phases}
-use Rattle.turn.proofs.Orthogonal.{orthogonal-turned, turned-by-beams, turned-by-co-phases}
 
 -- what cancels is exactly zero
 pub cancels-orthogonal : (xs ys : List ℕ) → Cancels (differences xs ys) → Orthogonal xs ys

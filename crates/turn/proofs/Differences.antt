@@ -1,14 +1,12 @@
 -- The differences of two columns are a product again, of the differences of their factors.
 use mathlib.Core.Path.{_≡_, refl, sym, ap, ap₂, _∙_}
-use mathlib.Core.List.{List, [], _∷_, _++_, map}
-use Prim.Native.Nat.{ℕ, zero, suc, _+_, _*_, _/_, _%_}
-use native.Mathlib.Nat.{div-add-mod}
+use mathlib.Core.List.{List, [], _∷_, _++_, map, map-append}
+use Prim.Native.Nat.{ℕ, zero, suc, _+_, _*_, _/_}
 use native.Mathlib.Omega.{arith}
 use lib.ListN.{length, length-map}
 use Rattle.turn.specs.Phase.{turn, phase, difference}
 use Rattle.turn.specs.Column.{steps, product, grid, column}
 use Rattle.turn.specs.Exact.{differences}
-use Rattle.ground.proofs.Lists.{map-append}
 use Rattle.turn.proofs.Lists.{length-steps}
 
 -- ---- one port
@@ -26,14 +24,8 @@ pub difference-back : (x y : ℕ) → phase (x + difference x y) ≡ phase y
 unfolding difference
 difference-back x y = omega arith
 
-add-phases : (x y z w : ℕ) → phase x ≡ phase y → phase z ≡ phase w → phase (x + z) ≡ phase (y + w)
-add-phases x y z w e e′ = omega arith
-
 difference-add : (x a y b : ℕ) → difference (x + a) (y + b) ≡ phase (difference x y + difference a b)
-difference-add x a y b =
-    difference-by (x + a) (y + b) (difference x y + difference a b)
-    (sym (add-phases (x + difference x y) y (a + difference a b) b (difference-back x y) (difference-back a b))
-    ∙ ap phase (omega arith))
+difference-add x a y b = difference-by (x + a) (y + b) _ (omega (arith, difference-back x y, difference-back a b))
 
 -- ---- lists
 
@@ -72,11 +64,9 @@ unfolding differences product
 differences-product [] ys us vs e = refl
 differences-product (x ∷ xs) [] us vs e = differences-nil (product (x ∷ xs) us)
 differences-product (x ∷ xs) (y ∷ ys) us vs e =
-    differences-append (map (λ a. x + a) us) (map (λ b. y + b) vs) (product xs us) (product ys vs)
-    (length-map us _ ∙ e ∙ sym (length-map vs _))
-    ∙ ap₂ _++_ (differences-shift x y us vs) (differences-product xs ys us vs e)
-    ∙ sym
-    (map-append phase (map (λ d. difference x y + d) (differences us vs)) (product (differences xs ys) (differences us vs)))
+    simp map-append
+    (differences-append (map (λ a. x + a) us) (map (λ b. y + b) vs) _ _ (simp length-map e)
+    ∙ ap₂ _++_ (differences-shift x y us vs) (differences-product xs ys us vs e))
 
 pub differences-column : (co co′ b b′ : List ℕ) → length b ≡ length b′
     → differences (column co b) (column co′ b′) ≡ map phase (product (differences co co′) (differences b b′))
@@ -85,24 +75,20 @@ differences-column co co′ b b′ e = differences-phases (product co b) (produc
 
 -- ---- steps
 
-mul-phase : (a x : ℕ) → phase (a * phase x) ≡ phase (a * x)
-mul-phase a x = go (x / turn) (x % turn) (div-add-mod x turn)
-  where
-    go : (q r : ℕ) → turn * q + r ≡ x → phase (a * r) ≡ phase (a * x)
-    go q r e = omega (arith, ap (λ (n : ℕ). a * n) e)
-
 -- steps of s against steps that are g longer
 differences-steps : (n s s′ g : ℕ) → phase s′ ≡ phase (s + g) → differences (steps n s) (steps n s′) ≡ map phase (steps n g)
 unfolding differences steps
 differences-steps zero s s′ g e = refl
 differences-steps (suc n) s s′ g e =
-    differences-append (steps n s) (steps n s′) (n * s ∷ []) (n * s′ ∷ []) (length-steps n s ∙ sym (length-steps n s′))
-    ∙ ap₂ _++_ (differences-steps n s s′ g e)
-    (ap {B = List ℕ} (λ z. z ∷ []) (difference-by (n * s) (n * s′) (n * g) further))
-    ∙ sym (map-append phase (steps n g) (n * g ∷ []))
+    rw (
+      map-append,
+      differences-append (steps n s) (steps n s′) _ _ (simp length-steps),
+      differences-steps n s s′ g e,
+      difference-by (n * s) (n * s′) (n * g) (further ((s + g) / turn) (s′ / turn) (omega arith)),
+    )
   where
-    further : phase (n * s′) ≡ phase (n * s + n * g)
-    further = sym (mul-phase n s′) ∙ ap (λ (x : ℕ). phase (n * x)) e ∙ mul-phase n (s + g) ∙ ap phase (omega arith)
+    further : (a b : ℕ) → s′ + turn * a ≡ s + g + turn * b → phase (n * s′) ≡ phase (n * s + n * g)
+    further a b e = omega (arith, ap (λ (x : ℕ). n * x) e)
 
 pub differences-grid : (n1 s s′ g n2 u u′ h : ℕ) → phase s′ ≡ phase (s + g) → phase u′ ≡ phase (u + h)
     → differences (grid n1 s n2 u) (grid n1 s′ n2 u′)

@@ -1,17 +1,17 @@
 -- What stands where in a column, and the phases of a beam as they are printed.
-use mathlib.Core.Path.{_≡_, sym, ap, ap₂, _∙_, subst}
+use mathlib.Core.Path.{_≡_, sym, ap, ap₂, _∙_}
 use mathlib.Core.Logic.{inl, inr}
 use mathlib.Core.List.{List, [], _∷_, _++_, map}
 use Prim.Native.Nat.{ℕ, zero, suc, _+_, _*_, _/_, _%_, _<_}
-use native.Mathlib.Nat.{not-suc-le-zero, le-of-suc-le-suc, eq-or-lt-of-le, mod-mod, mul-assoc, mul-comm, mul-div-cancel}
+use native.Mathlib.Nat.{not-suc-le-zero, le-of-suc-le-suc, eq-or-lt-of-le, mod-mod, mul-div-cancel}
 use native.Mathlib.Omega.{arith}
 use lib.Arith.{digits-lt}
-use lib.ListN.{length, getD, length-map, List·getD-append}
+use lib.ListN.{length, getD, length-map, List·getD-append, List·getD-map}
 use lib.Seq.{getD-at, getD-append-add}
+use Rattle.ground.proofs.Lists.{map-at}
 use Rattle.turn.specs.Phase.{turn, phase}
 use Rattle.turn.specs.Column.{Setting, Divides, steps, product, grid, step, beam, column}
-use Rattle.ground.proofs.Lists.{map-at}
-use Rattle.turn.proofs.Lists.{length-steps, length-product, length-beam}
+use Rattle.turn.proofs.Lists.{length-steps, length-beam}
 use Rattle.turn.proofs.Steps.{left-pos}
 
 pub steps-entry : (n s i : ℕ) → i < n → getD (steps n s) i 0 ≡ i * s
@@ -22,40 +22,31 @@ steps-entry (suc n) s i h = elim (eq-or-lt-of-le (le-of-suc-le-suc h)) [
   | inr l ↦ List·getD-append (steps n s) (n * s ∷ []) 0 i (omega (arith, length-steps n s)) ∙ steps-entry n s i l
 ]
 
-pub product-entry : (xs ys : List ℕ) (i j : ℕ) → i < length xs → j < length ys
-    → getD (product xs ys) (i * length ys + j) 0 ≡ getD xs i 0 + getD ys j 0
+pub product-entry : (xs ys : List ℕ) (w i j : ℕ) → length ys ≡ w → i < length xs → j < w
+    → getD (product xs ys) (i * w + j) 0 ≡ getD xs i 0 + getD ys j 0
 unfolding product
-product-entry [] ys i j h k = absurd (not-suc-le-zero h)
-product-entry (x ∷ xs) ys zero j h k =
+product-entry [] ys w i j e h k = absurd (not-suc-le-zero h)
+product-entry (x ∷ xs) ys w zero j e h k =
     ap (λ (n : ℕ). getD (map (λ y. x + y) ys ++ product xs ys) n 0) (omega arith)
     ∙ List·getD-append (map (λ y. x + y) ys) (product xs ys) 0 j (omega (arith, length-map ys (λ y. x + y)))
-    ∙ map-at (λ y. x + y) ys j 0 0 k
-product-entry (x ∷ xs) ys (suc i) j h k =
+    ∙ map-at (λ y. x + y) ys j 0 0 (omega arith)
+product-entry (x ∷ xs) ys w (suc i) j e h k =
     ap (λ (n : ℕ). getD (map (λ y. x + y) ys ++ product xs ys) n 0) (omega (arith, length-map ys (λ y. x + y)))
-    ∙ getD-append-add (map (λ y. x + y) ys) (product xs ys) (i * length ys + j) 0
-    ∙ product-entry xs ys i j (le-of-suc-le-suc h) k
-
--- the same with the length of ys by another name
-product-entry-at : (xs ys : List ℕ) (w i j : ℕ) → length ys ≡ w → i < length xs → j < w
-    → getD (product xs ys) (i * w + j) 0 ≡ getD xs i 0 + getD ys j 0
-product-entry-at xs ys w i j e h k =
-    subst (λ (n : ℕ). getD (product xs ys) (i * n + j) 0 ≡ getD xs i 0 + getD ys j 0) e
-    (product-entry xs ys i j h (omega arith))
+    ∙ getD-append-add (map (λ y. x + y) ys) (product xs ys) (i * w + j) 0
+    ∙ product-entry xs ys w i j e (le-of-suc-le-suc h) k
 
 pub grid-entry : (n1 s n2 u a b : ℕ) → a < n1 → b < n2 → getD (grid n1 s n2 u) (a * n2 + b) 0 ≡ a * s + b * u
 unfolding grid
 grid-entry n1 s n2 u a b h k =
-    product-entry-at (steps n1 s) (steps n2 u) n2 a b (length-steps n2 u) (omega (arith, length-steps n1 s)) k
+    product-entry (steps n1 s) (steps n2 u) n2 a b (length-steps n2 u) (omega (arith, length-steps n1 s)) k
     ∙ ap₂ _+_ (steps-entry n1 s a h) (steps-entry n2 u b k)
 
 -- entry i of block q
-pub column-entry : (co b : List ℕ) (q i : ℕ) → q < length co → i < length b
-    → getD (column co b) (q * length b + i) 0 ≡ phase (getD co q 0 + getD b i 0)
+pub column-entry : (co b : List ℕ) (w q i : ℕ) → length b ≡ w → q < length co → i < w
+    → getD (column co b) (q * w + i) 0 ≡ phase (getD co q 0 + getD b i 0)
 unfolding column
-column-entry co b q i h k =
-    map-at phase (product co b) (q * length b + i) 0 0
-    (subst (λ (n : ℕ). q * length b + i < n) (sym (length-product co b)) (digits-lt h k))
-    ∙ ap phase (product-entry co b q i h k)
+column-entry co b w q i e h k =
+    List·getD-map phase (product co b) (q * w + i) 0 ∙ ap phase (product-entry co b w q i e h k)
 
 -- ---- beams
 
@@ -66,13 +57,9 @@ beam-reduced c l m = rw (mod-mod l (c .n1 * c .o1), mod-mod m (c .n2 * c .o2))
 
 -- where w divides a turn, a·l·turn/w is a steps of l·(turn/w)
 pub printed : (a l w : ℕ) → w * (turn / w) ≡ turn → a * l * turn / w ≡ a * (l * (turn / w))
-printed a l w e = ap (λ (x : ℕ). x / w) as-multiple ∙ mul-div-cancel (a * (l * (turn / w))) (left-pos w (turn / w) e)
-  where
-    as-multiple : a * l * turn ≡ a * (l * (turn / w)) * w
-    as-multiple =
-        ap (λ (x : ℕ). a * l * x) (sym e ∙ mul-comm w (turn / w))
-        ∙ sym (mul-assoc (a * l) (turn / w) w)
-        ∙ ap (λ (x : ℕ). x * w) (mul-assoc a l (turn / w))
+printed a l w e =
+    ap (λ (x : ℕ). x / w) (omega (arith, ap (λ (x : ℕ). a * l * x) e))
+    ∙ mul-div-cancel (a * (l * (turn / w))) (left-pos w (turn / w) e)
 
 module _ (c : Setting) (whole : Divides c) (l m a b : ℕ) (ha : a < c .n1) (hb : b < c .n2) where
   -- a·l·turn/(N1·O1) + b·m·turn/(N2·O2), with l and m reduced
@@ -90,7 +77,5 @@ module _ (c : Setting) (whole : Divides c) (l m a b : ℕ) (ha : a < c .n1) (hb 
   pub entry : (co : List ℕ) (q : ℕ) → q < length co
       → getD (column co (beam c l m)) (q * (c .n1 * c .n2) + (a * c .n2 + b)) 0 ≡ phase (getD co q 0 + at)
   entry co q h =
-      ap (λ (n : ℕ). getD (column co (beam c l m)) (q * n + (a * c .n2 + b)) 0) (sym (length-beam c l m))
-      ∙ column-entry co (beam c l m) q (a * c .n2 + b) h
-      (subst (λ (n : ℕ). a * c .n2 + b < n) (sym (length-beam c l m)) (digits-lt ha hb))
+      column-entry co (beam c l m) (c .n1 * c .n2) q (a * c .n2 + b) (length-beam c l m) h (digits-lt ha hb)
       ∙ ap (λ (x : ℕ). phase (getD co q 0 + x)) beam-entry

@@ -4,12 +4,10 @@ pub mod Lists
 pub mod Columns
 pub mod Steps
 pub mod Entries
-pub mod Totals
 pub mod Invariant
 pub mod Zero
 pub mod Differences
 pub mod Beams
-pub mod Opposites
 pub mod Orthogonal
 pub mod Multiples
 pub mod Cancel

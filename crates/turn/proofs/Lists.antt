@@ -1,10 +1,9 @@
 -- Lengths of the lists of phases, and what `map` does to them.
-use mathlib.Core.Path.{_≡_, refl, ap, _∙_}
-use mathlib.Core.List.{List, [], _∷_, _++_, map}
-use Prim.Native.Nat.{ℕ, zero, suc, _+_, _*_, _<_}
-use native.Mathlib.Nat.{not-suc-le-zero, le-of-suc-le-suc}
+use mathlib.Core.Path.{_≡_, refl, _∙_}
+use mathlib.Core.List.{List, [], _∷_}
+use Prim.Native.Nat.{ℕ, zero, suc, _*_}
 use native.Mathlib.Omega.{arith}
-use lib.ListN.{length, getD, length-append, length-map}
+use lib.ListN.{length, length-append, length-map}
 use Rattle.turn.specs.Column.{Setting, steps, product, grid, beam}
 
 pub length-steps : (n s : ℕ) → length (steps n s) ≡ n
@@ -15,8 +14,7 @@ length-steps (suc n) s = length-append (steps n s) (n * s ∷ []) ∙ omega (ari
 pub length-product : (xs ys : List ℕ) → length (product xs ys) ≡ length xs * length ys
 unfolding product
 length-product [] ys = omega arith
-length-product (x ∷ xs) ys =
-    length-append (map (λ y. x + y) ys) (product xs ys) ∙ omega (arith, length-map ys (λ y. x + y), length-product xs ys)
+length-product (x ∷ xs) ys = simp (length-append, length-map) (omega (arith, length-product xs ys))
 
 pub length-grid : (n1 s n2 u : ℕ) → length (grid n1 s n2 u) ≡ n1 * n2
 unfolding grid

@@ -1,31 +1,17 @@
 -- Multiples of a number stay multiples in steps, products and columns.
-use mathlib.Core.Path.{_≡_, _∙_}
+use mathlib.Core.Path.{_≡_, ap₂, _∙_}
 use mathlib.Core.List.{List, map}
 use Prim.Native.Nat.{ℕ, zero, suc, _+_, _*_, _/_, _%_, _<_}
-use native.Mathlib.Nat.{dvd-add, dvd-of-mod-eq-zero, mod-eq-zero-of-dvd, mod-mod-of-dvd}
-use native.Mathlib.Nat.{not-suc-le-zero, le-of-suc-le-suc}
+use native.Mathlib.Nat.{zero-mod, add-mod, dvd-of-mod-eq-zero, mod-mod-of-dvd, not-suc-le-zero, le-of-suc-le-suc}
 use lib.ListN.{length, getD}
+use Rattle.ground.specs.Lists.{all-nil, all-cons}
+use Rattle.ground.proofs.All.{all-append, all-map}
 use Rattle.turn.specs.Phase.{turn, phase}
 use Rattle.turn.specs.Column.{steps, product, grid, step, column}
-use Rattle.ground.specs.Lists.{All, all-nil, all-cons}
-use Rattle.ground.proofs.All.{all-append, all-map}
 use Rattle.turn.specs.Cancel.{Multiples}
 use Rattle.turn.proofs.Steps.{mul-multiple}
 
-pub all-product : {P : ℕ → Type 0} {xs ys : List ℕ} → ((x y : ℕ) → P x → P y → P (x + y)) → All P xs → All P ys
-    → All P (product xs ys)
-unfolding product
-all-product add all-nil q = all-nil
-all-product {P} add (all-cons {x} h p) q = all-append (shifted x h q) (all-product add p q)
-  where
-    shifted : (x : ℕ) → P x → {ys : List ℕ} → All P ys → All P (map (λ y. x + y) ys)
-    shifted x h all-nil = all-nil
-    shifted x h (all-cons {x = y} k q) = all-cons (add x y h k) (shifted x h q)
-
 module _ (g : ℕ) where
-  pub add-multiple : (x y : ℕ) → x % g ≡ 0 → y % g ≡ 0 → (x + y) % g ≡ 0
-  add-multiple x y h k = mod-eq-zero-of-dvd g (dvd-add g (dvd-of-mod-eq-zero g h) (dvd-of-mod-eq-zero g k))
-
   -- each step of a beam is a multiple of that of beam 1
   pub step-multiple : (n o l : ℕ) → turn / (n * o) % g ≡ 0 → step n o l % g ≡ 0
   unfolding step
@@ -42,7 +28,11 @@ module _ (g : ℕ) where
   multiples-steps (suc n) s h = all-append (multiples-steps n s h) (all-cons (mul-multiple n s g h) all-nil)
 
   pub multiples-product : {xs ys : List ℕ} → Multiples g xs → Multiples g ys → Multiples g (product xs ys)
-  multiples-product = all-product add-multiple
+  unfolding product
+  multiples-product all-nil q = all-nil
+  multiples-product (all-cons {x} h p) q =
+      all-append (all-map (λ y. x + y) (λ y k. add-mod x y g ∙ ap₂ (λ (a b : ℕ). (a + b) % g) h k ∙ zero-mod g) q)
+      (multiples-product p q)
 
   pub multiples-grid : (n1 s n2 u : ℕ) → s % g ≡ 0 → u % g ≡ 0 → Multiples g (grid n1 s n2 u)
   unfolding grid

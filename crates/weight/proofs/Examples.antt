@@ -1,68 +1,55 @@
 -- What the sums, powers and limits of Products are and are not: in small numbers, and for any layer against itself.
-use mathlib.Core.Path.{_≡_, refl, ap, ap₂, _∙_}
-use mathlib.Core.List.{List, [], _∷_, map}
+use mathlib.Core.Path.{_≡_, refl, ap, ap₂}
+use mathlib.Core.List.{List, [], _∷_, _++_, map}
 use Prim.Native.Nat.{ℕ, _+_, _*_, _≤_}
 use native.Mathlib.Omega.{arith}
 use lib.IntN.{ℤ, pos, negsuc, negℤ, natAbs, _+ℤ_, _*ℤ_}
-use lib.ListN.{length}
+use lib.ListN.{length, take}
 use Rattle.turn.specs.Cancel.{total}
 use Rattle.weight.specs.declared.Weight.{Weight}
-use Rattle.weight.specs.Table.{weight}
+use Rattle.weight.specs.Table.{weight, pairs}
 use Rattle.weight.specs.Products.{re, im, power, Within, fullPower, limit, cross, portPower}
 use Rattle.weight.proofs.Rules.{power-within}
 
 -- ---- two layers of two ports
 
-abbrev a : Weight
-a = record { x = pos 1; y = pos 2 }
-
-abbrev b : Weight
-b = record { x = pos 5; y = negℤ (pos 6) }
-
-abbrev g : Weight
-g = record { x = pos 3; y = pos 4 }
-
-abbrev h : Weight
-h = record { x = pos 7; y = pos 8 }
-
 -- 1 + 2i and 5 - 6i
 abbrev first : List Weight
-first = a ∷ b ∷ []
+first = pairs (pos 1 ∷ pos 2 ∷ pos 5 ∷ negℤ (pos 6) ∷ [])
 
 -- 3 + 4i and 7 + 8i
 abbrev second : List Weight
-second = g ∷ h ∷ []
-
-abbrev both : List Weight
-both = a ∷ b ∷ g ∷ h ∷ []
+second = pairs (pos 3 ∷ pos 4 ∷ pos 7 ∷ pos 8 ∷ [])
 
 -- at one port: conjugate(1 + 2i) times 3 + 4i is 11 - 2i
-pub cross-of-one-port : (cross re (a ∷ []) (g ∷ []) ≡ pos 11) × (cross im (a ∷ []) (g ∷ []) ≡ negℤ (pos 2))
-unfolding cross
+pub cross-of-one-port : (cross re (take 1 first) (take 1 second) ≡ pos 11)
+    × (cross im (take 1 first) (take 1 second) ≡ negℤ (pos 2))
+unfolding cross pairs
 cross-of-one-port = (refl, refl)
 
 -- at both: conjugate(5 - 6i) times 7 + 8i is -13 + 82i, so the sum is -2 + 80i
 pub cross-of-two-ports : (cross re first second ≡ negℤ (pos 2)) × (cross im first second ≡ pos 80)
-unfolding cross
+unfolding cross pairs
 cross-of-two-ports = (refl, refl)
 
 -- the layers exchanged give its conjugate
 pub cross-exchanged : (cross re second first ≡ negℤ (pos 2)) × (cross im second first ≡ negℤ (pos 80))
-unfolding cross
+unfolding cross pairs
 cross-exchanged = (refl, refl)
 
 -- the powers of the four weights
-pub powers-of-both : (power a ≡ 5) × (power b ≡ 61) × (power g ≡ 25) × (power h ≡ 113)
-powers-of-both = (refl, refl, refl, refl)
+pub powers-of-both : map power (first ++ second) ≡ 5 ∷ 61 ∷ 25 ∷ 113 ∷ []
+unfolding pairs
+powers-of-both = refl
 
 -- port 0 has 5 in the first layer and 25 in the second, port 1 has 61 and 113
-pub port-powers-of-both : (portPower 2 2 0 both ≡ 30) × (portPower 2 2 1 both ≡ 174)
-unfolding portPower
+pub port-powers-of-both : (portPower 2 2 0 (first ++ second) ≡ 30) × (portPower 2 2 1 (first ++ second) ≡ 174)
+unfolding portPower pairs
 port-powers-of-both = (refl, refl)
 
 -- the first layer alone
-pub port-powers-of-first : (portPower 1 2 0 both ≡ 5) × (portPower 1 2 1 both ≡ 61)
-unfolding portPower
+pub port-powers-of-first : (portPower 1 2 0 (first ++ second) ≡ 5) × (portPower 1 2 1 (first ++ second) ≡ 61)
+unfolding portPower pairs
 port-powers-of-first = (refl, refl)
 
 -- ---- limits

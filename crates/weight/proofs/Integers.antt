@@ -1,27 +1,13 @@
 -- Laws of integers that the library has not.
 use mathlib.Core.Path.{_≡_, refl, sym, ap, ap₂, _∙_}
-use mathlib.Core.Bool.{Bool, true, false, cond}
-use Prim.Native.Nat.{ℕ, zero, suc, _+_, _-_, _*_, _≤_, _<_}
+use Prim.Native.Nat.{ℕ, zero, suc, _+_, _*_, _≤_}
 use native.Mathlib.Nat.{le-refl, mul-zero}
 use native.Mathlib.Omega.{arith}
-use lib.Dec.{T, eqb, eqb→eq, ltb, ltb→lt}
-use lib.IntN.{ℤ, pos, negsuc, negℤ, natAbs, subℕ, _+ℤ_, _-ℤ_, _*ℤ_, sucℤ-*ℤ, zero-*ℤ, *ℤ-comm, +ℤ-assoc, +ℤ-comm, +ℤ-idl}
-use lib.IntN.{+ℤ-idr, -ℤ-+ℤ-cancel, negℤ-+ℤ, negℤ-negℤ}
-
--- ---- equality, as a test
-
-unfoldable pub eqZ : ℤ → ℤ → Bool
-eqZ (pos a) (pos b) = eqb a b
-eqZ (pos a) (negsuc b) = false
-eqZ (negsuc a) (pos b) = false
-eqZ (negsuc a) (negsuc b) = eqb a b
-
-pub eqZ→eq : (a b : ℤ) → T (eqZ a b) → a ≡ b
-unfolding eqZ
-eqZ→eq (pos a) (pos b) t = ap pos (eqb→eq a b t)
-eqZ→eq (pos a) (negsuc b) t = absurd t
-eqZ→eq (negsuc a) (pos b) t = absurd t
-eqZ→eq (negsuc a) (negsuc b) t = ap negsuc (eqb→eq a b t)
+use native.Mathlib.Decide.{decLt}
+use lib.IntN.{ℤ, pos, negsuc, negℤ, natAbs, subℕ, _+ℤ_, _-ℤ_, _*ℤ_, sucℤ-*ℤ, zero-*ℤ, *ℤ-comm, +ℤ-assoc, +ℤ-comm}
+use lib.IntN.{+ℤ-idl, +ℤ-idr, negℤ-+ℤ, negℤ-negℤ}
+use borrow.Author.Tests.{lt-ltb, le-ltb}
+use Rattle.turn.proofs.NotZero.{across}
 
 -- ---- signs and sizes
 
@@ -42,11 +28,10 @@ size-neg (pos (suc n)) = refl
 size-neg (negsuc n) = refl
 
 size-sub : (a b : ℕ) → natAbs (subℕ a b) ≤ a + b
-size-sub a b = go (ltb a b) (λ t. ltb→lt a b t)
-  where
-    go : (t : Bool) → (T t → a < b) → natAbs (cond t (negsuc (b - suc a)) (pos (a - b))) ≤ a + b
-    go true h = let k = h tt in omega arith
-    go false h = omega arith
+size-sub a b = elim (decLt a b) [
+  | yes h ↦ rw (lt-ltb a b h) (omega arith)
+  | no h ↦ rw (le-ltb a b (omega arith)) (omega arith)
+]
 
 pub size-add : (a b : ℤ) → natAbs (a +ℤ b) ≤ natAbs a + natAbs b
 size-add (pos a) (pos b) = le-refl (a + b)
@@ -58,9 +43,7 @@ size-add (negsuc a) (negsuc b) = omega arith
 
 pub interchange : (a b c d : ℤ) → (a +ℤ b) +ℤ (c +ℤ d) ≡ (a +ℤ c) +ℤ (b +ℤ d)
 interchange a b c d =
-    +ℤ-assoc a b (c +ℤ d)
-    ∙ ap (λ z. a +ℤ z) (sym (+ℤ-assoc b c d) ∙ ap (λ z. z +ℤ d) (+ℤ-comm b c) ∙ +ℤ-assoc c b d)
-    ∙ sym (+ℤ-assoc a c (b +ℤ d))
+    rw (+ℤ-assoc a b (c +ℤ d), ← +ℤ-assoc b c d, +ℤ-comm b c, +ℤ-assoc c b d, +ℤ-assoc a c (b +ℤ d))
 
 pub sub-sums : (a b c d : ℤ) → (a +ℤ b) -ℤ (c +ℤ d) ≡ (a -ℤ c) +ℤ (b -ℤ d)
 sub-sums a b c d = ap (λ z. (a +ℤ b) +ℤ z) (negℤ-+ℤ c d) ∙ interchange a b (negℤ c) (negℤ d)
@@ -80,35 +63,26 @@ above (pos n) = n
 above (negsuc n) = 0
 
 unfoldable pub below : ℤ → ℕ
-below (pos n) = 0
-below (negsuc n) = suc n
-
-pub above-neg : (z : ℤ) → above (negℤ z) ≡ below z
-unfolding above below
-above-neg (pos zero) = refl
-above-neg (pos (suc n)) = refl
-above-neg (negsuc n) = refl
+below z = above (negℤ z)
 
 pub parts : (z : ℤ) → z ≡ pos (above z) -ℤ pos (below z)
 unfolding above below
-parts (pos n) = sym (+ℤ-idr (pos n))
+parts (pos zero) = refl
+parts (pos (suc n)) = sym (+ℤ-idr (pos (suc n)))
 parts (negsuc n) = sym (+ℤ-idl (negsuc n))
 
 pub add-parts : (a b c d : ℕ) → (pos a -ℤ pos b) +ℤ (pos c -ℤ pos d) ≡ pos (a + c) -ℤ pos (b + d)
 add-parts a b c d =
     interchange (pos a) (negℤ (pos b)) (pos c) (negℤ (pos d)) ∙ ap (λ z. pos (a + c) +ℤ z) (sym (negℤ-+ℤ (pos b) (pos d)))
 
-no-difference : (a b : ℕ) → pos a -ℤ pos b ≡ pos 0 → a ≡ b
-no-difference a b e = same (sym (-ℤ-+ℤ-cancel (pos a) (pos b)) ∙ ap (λ z. z +ℤ pos b) e ∙ +ℤ-idl (pos b))
-  where
-    same : pos a ≡ pos b → a ≡ b
-    same p = cc
-
 -- three integers that sum to zero
 pub zero-parts : (u v w : ℤ) → u +ℤ v +ℤ w ≡ pos 0 → above u + above v + above w ≡ below u + below v + below w
 zero-parts u v w e =
-    no-difference (above u + above v + above w) (below u + below v + below w)
-    (sym (add-parts (above u + above v) (below u + below v) (above w) (below w))
-    ∙ ap (λ z. z +ℤ (pos (above w) -ℤ pos (below w))) (sym (add-parts (above u) (below u) (above v) (below v)))
-    ∙ ap₂ _+ℤ_ (ap₂ _+ℤ_ (sym (parts u)) (sym (parts v))) (sym (parts w))
-    ∙ e)
+    omega (
+      arith,
+      across (above u + above v + above w) (below u + below v + below w) 0 0
+          (sym (add-parts (above u + above v) (below u + below v) (above w) (below w))
+          ∙ ap (λ z. z +ℤ (pos (above w) -ℤ pos (below w))) (sym (add-parts (above u) (below u) (above v) (below v)))
+          ∙ ap₂ _+ℤ_ (ap₂ _+ℤ_ (sym (parts u)) (sym (parts v))) (sym (parts w))
+          ∙ e),
+    )

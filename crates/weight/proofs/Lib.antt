@@ -5,7 +5,5 @@ pub mod Integers
 pub mod Rules
 pub mod Nearest
 pub mod Products
-pub mod Sums
 pub mod CrossSum
-pub mod Powers
 pub mod Examples

@@ -4,24 +4,24 @@ use mathlib.Core.Path.{_≡_, refl, ap, _∙_, subst}
 use mathlib.Core.Logic.{_≢_}
 use mathlib.Core.Bool.{Bool, _||_}
 use mathlib.Core.List.{zipWith}
-use Prim.Native.Nat.{ℕ, _+_, _*_, _%_}
-use native.Mathlib.Nat.{mod-lt, mod-mod}
+use Prim.Native.Nat.{ℕ, _+_, _*_, _%_, _<_}
 use native.Mathlib.Omega.{arith}
-use lib.Dec.{T, eqb, eqb→eq, lit<}
+use lib.Dec.{T, eqb, eqb→eq}
 use lib.IntN.{ℤ, pos, negℤ, _+ℤ_, _-ℤ_, _*ℤ_}
-use lib.Signed.{ltZ, ltZ-yes}
-use Rattle.turn.specs.Phase.{turn, third, quarter, sixth, phase}
-use Rattle.ground.proofs.Tests.{or-else, every-at}
+use lib.Signed.{ltZ, _<ℤ_, ltZ-yes}
 use Rattle.ground.specs.Lists.{every}
+use Rattle.ground.proofs.Tests.{or-else, every-at}
+use Rattle.turn.specs.Phase.{turn, third, quarter, sixth, phase}
 use Rattle.weight.specs.declared.Weight.{Weight}
 use Rattle.weight.specs.Table.{radius, firstQuarter, firstHalf, xs, ys, table, weight}
 use Rattle.weight.specs.Nearest.{wave, Nearest, doublings}
-use Rattle.weight.proofs.Rules.{x, y, x-same, y-same, quarter-more}
+use Rattle.weight.proofs.Rules.{x, y, weight-phase, weight-same, quarter-more}
 
 -- the sine is the cosine three quarters on
 pub sine : (e : ℕ) → y e ≡ x (e + 3 * quarter)
 sine e =
-    y-same e (e + 3 * quarter + quarter) (omega arith) ∙ ap (λ (w : Weight). w .y) (quarter-more (e + 3 * quarter))
+    ap (λ (w : Weight). w .y)
+    (weight-same e (e + 3 * quarter + quarter) (omega arith) ∙ quarter-more (e + 3 * quarter))
 
 crosses : ℕ → ℤ
 crosses e = wave (doublings quarter e) (pos 2 *ℤ x e -ℤ pos 1) *ℤ wave (doublings quarter e) (pos 2 *ℤ x e +ℤ pos 1)
@@ -36,12 +36,25 @@ all-nearest = tt
 pub nearest : (e : ℕ) → e % sixth ≢ 0 → Nearest (doublings quarter (phase e)) (x e)
 unfolding nearest? crosses
 nearest e n =
-    subst (Nearest (doublings quarter (phase e))) (x-same (phase e) e (mod-mod e turn)) (record {
+    subst (λ (w : Weight). Nearest (doublings quarter (phase e)) (w .x)) (weight-phase e) (record {
       crosses =
           ltZ-yes
           (or-else (eqb (phase e % sixth) 0) _ (λ t. n (omega (arith, eqb→eq (phase e % sixth) 0 t)))
-          (every-at turn nearest? all-nearest (phase e) (mod-lt e (lit< tt))));
+          (every-at turn nearest? all-nearest (phase e) (omega arith)));
     })
+
+-- ---- x falls strictly over the first quarter
+
+falls? : ℕ → Bool
+falls? e = ltZ (x (e + 1)) (x e)
+
+all-fall : T (every quarter falls?)
+unfolding every falls? weight table zipWith xs ys firstHalf firstQuarter
+all-fall = tt
+
+pub falls : (e : ℕ) → e < quarter → x (e + 1) <ℤ x e
+unfolding falls?
+falls e h = ltZ-yes (every-at quarter falls? all-fall e h)
 
 -- ---- at a sixth of a turn the cosine is a half, at a third minus a half; `half-more` gives the other three sixths
 

@@ -1,39 +1,33 @@
 -- Weights as they are stored: where the numbers of each stand, and what is read back.
 use mathlib.Core.Path.{_≡_, refl, ap, _∙_}
-use mathlib.Core.List.{List, [], _∷_, _++_, zipWith}
+use mathlib.Core.List.{List, [], _∷_, _++_, map, zipWith}
 use Prim.Native.Nat.{ℕ, zero, suc, _+_, _*_, _/_, _<_}
 use native.Mathlib.Omega.{arith}
 use lib.IntN.{ℤ, pos}
 use lib.ListN.{length, getD, length-map}
+use Rattle.ground.proofs.Lists.{map-at}
 use Rattle.turn.specs.Phase.{turn}
 use Rattle.turn.specs.Column.{steps}
-use Rattle.ground.proofs.Lists.{map-at}
 use Rattle.turn.proofs.Lists.{length-steps}
 use Rattle.turn.proofs.Entries.{steps-entry}
 use Rattle.weight.specs.declared.Weight.{Weight}
-use Rattle.weight.specs.Table.{firstQuarter, firstHalf, xs, ys, table, none, weight, sampled}
-use Rattle.weight.specs.Table.{numbers, pairs}
+use Rattle.weight.specs.Table.{firstQuarter, firstHalf, xs, ys, table, none, weight, sampled, numbers, pairs}
 
 pub one-weight : {v w : Weight} → v .x ≡ w .x → v .y ≡ w .y → v ≡ w
 one-weight p q = λ i. record { x = p i; y = q i }
 
--- the first weight has two numbers
-past-two : (w : Weight) (ws : List Weight) (n m : ℕ) (z : ℤ) → n ≡ suc (suc m)
-    → getD (numbers (w ∷ ws)) n z ≡ getD (numbers ws) m z
-unfolding numbers
-past-two w ws n m z e = ap (λ (k : ℕ). getD (w .x ∷ w .y ∷ numbers ws) k z) e
-
+-- where x and y of weight i stand
 pub numbers-x : (ws : List Weight) (z : Weight) (i : ℕ) → getD (numbers ws) (2 * i) (z .x) ≡ getD ws i z .x
 unfolding numbers
 numbers-x [] z i = refl
 numbers-x (w ∷ ws) z zero = refl
-numbers-x (w ∷ ws) z (suc i) = past-two w ws (2 * suc i) (2 * i) (z .x) (omega arith) ∙ numbers-x ws z i
+numbers-x (w ∷ ws) z (suc i) = let e : 2 * suc i ≡ suc (suc (2 * i)) = omega arith in rw e (numbers-x ws z i)
 
 pub numbers-y : (ws : List Weight) (z : Weight) (i : ℕ) → getD (numbers ws) (2 * i + 1) (z .y) ≡ getD ws i z .y
 unfolding numbers
 numbers-y [] z i = refl
 numbers-y (w ∷ ws) z zero = refl
-numbers-y (w ∷ ws) z (suc i) = past-two w ws (2 * suc i + 1) (2 * i + 1) (z .y) (omega arith) ∙ numbers-y ws z i
+numbers-y (w ∷ ws) z (suc i) = let e : 2 * suc i + 1 ≡ suc (suc (2 * i + 1)) = omega arith in rw e (numbers-y ws z i)
 
 pub length-numbers : (ws : List Weight) → length (numbers ws) ≡ 2 * length ws
 unfolding numbers
@@ -57,15 +51,14 @@ pub length-sampled : (apart : ℕ) → length (numbers (sampled apart)) ≡ 2 * 
 unfolding sampled
 length-sampled apart = simp (length-numbers, length-map, length-steps)
 
-sampled-at : (apart k : ℕ) → k < turn / apart → getD (sampled apart) k none ≡ weight (k * apart)
-unfolding sampled
-sampled-at apart k h =
-    map-at weight (steps (turn / apart) apart) k 0 none (rw length-steps h)
-    ∙ ap weight (steps-entry (turn / apart) apart k h)
+pub map-steps-at : (f : ℕ → Weight) (n s k : ℕ) → k < n → getD (map f (steps n s)) k none ≡ f (k * s)
+map-steps-at f n s k h = map-at f (steps n s) k 0 none (rw length-steps h) ∙ ap f (steps-entry n s k h)
 
 pub sampled-x : (apart k : ℕ) → k < turn / apart → getD (numbers (sampled apart)) (2 * k) (pos 0) ≡ weight (k * apart) .x
-sampled-x apart k h = numbers-x (sampled apart) none k ∙ ap (λ (w : Weight). w .x) (sampled-at apart k h)
+unfolding sampled
+sampled-x apart k h = numbers-x (sampled apart) none k ∙ ap (λ (w : Weight). w .x) (map-steps-at weight _ apart k h)
 
 pub sampled-y : (apart k : ℕ) → k < turn / apart
     → getD (numbers (sampled apart)) (2 * k + 1) (pos 0) ≡ weight (k * apart) .y
-sampled-y apart k h = numbers-y (sampled apart) none k ∙ ap (λ (w : Weight). w .y) (sampled-at apart k h)
+unfolding sampled
+sampled-y apart k h = numbers-y (sampled apart) none k ∙ ap (λ (w : Weight). w .y) (map-steps-at weight _ apart k h)

@@ -1,52 +1,42 @@
 -- conjugate(weight e) times weight g is near radius times the weight at g - e: tested on a quarter of a turn by a
 -- quarter, and carried everywhere by the quarter rule.
-use mathlib.Core.Path.{_≡_, refl, sym, ap, _∙_, subst, subst₃}
-use mathlib.Core.Bool.{Bool, true, false, _&&_}
-use mathlib.Core.List.{List, [], _∷_, zipWith}
-use Prim.Native.Nat.{ℕ, zero, suc, _+_, _*_, _%_, _/_, _<_, _≤_}
-use native.Mathlib.Nat.{not-suc-le-zero, le-of-suc-le-suc, mod-lt, div-add-mod}
+use mathlib.Core.Path.{_≡_, refl, ap, _∙_, subst}
+use mathlib.Core.Bool.{Bool, _&&_}
+use mathlib.Core.List.{zipWith}
+use Prim.Native.Nat.{ℕ, zero, suc, _+_, _*_, _/_, _%_, _<_}
+use native.Mathlib.Nat.{div-add-mod}
 use native.Mathlib.Omega.{arith}
-use lib.Dec.{T, leb, lit<}
-use lib.IntN.{ℤ, pos, negℤ, natAbs, _+ℤ_, _-ℤ_, _*ℤ_, negℤ-negℤ, negℤ-+ℤ, +ℤ-comm}
-use lib.ListN.{getD, drop}
-use lib.Seq.{getD-drop}
-use Rattle.turn.specs.Phase.{quarter, phase, difference}
-use Rattle.ground.proofs.Tests.{and-left, and-right, two-le, every-at}
+use lib.Dec.{T, leb}
+use lib.IntN.{ℤ, pos, negℤ, _+ℤ_, _-ℤ_, _*ℤ_, negℤ-negℤ, negℤ-+ℤ, +ℤ-comm}
 use Rattle.ground.specs.Lists.{every}
+use Rattle.ground.proofs.Tests.{two-le, every-at}
+use Rattle.turn.specs.Phase.{quarter, phase, difference}
 use Rattle.turn.proofs.Differences.{difference-back}
 use Rattle.weight.specs.declared.Weight.{Weight}
-use Rattle.weight.specs.Table.{radius, firstQuarter, firstHalf, xs, ys, table, none, weight}
+use Rattle.weight.specs.Table.{radius, firstQuarter, firstHalf, xs, ys, table, weight}
 use Rattle.weight.specs.Products.{turned, re, im, off, Near, limit, productOff}
 use Rattle.weight.proofs.Integers.{mul-neg, neg-mul, size-neg}
 use Rattle.weight.proofs.Rules.{weight-same, quarter-more}
 
--- ---- the test, along the table and along the table from d on
-
--- the test passes at the first n places of two lists
-walk : ℕ → (Weight → Weight → Bool) → List Weight → List Weight → Bool
-walk zero f vs ws = true
-walk (suc n) f [] ws = false
-walk (suc n) f (v ∷ vs) [] = false
-walk (suc n) f (v ∷ vs) (w ∷ ws) = f v w && walk n f vs ws
-
-walk-at : (n : ℕ) (f : Weight → Weight → Bool) (vs ws : List Weight) → T (walk n f vs ws) → (k : ℕ) → k < n
-    → T (f (getD vs k none) (getD ws k none))
-unfolding walk
-walk-at zero f vs ws t k h = absurd (not-suc-le-zero h)
-walk-at (suc n) f [] ws t k h = absurd t
-walk-at (suc n) f (v ∷ vs) [] t k h = absurd t
-walk-at (suc n) f (v ∷ vs) (w ∷ ws) t zero h = and-left (f v w) (walk n f vs ws) t
-walk-at (suc n) f (v ∷ vs) (w ∷ ws) t (suc k) h =
-    walk-at n f vs ws (and-right (f v w) (walk n f vs ws) t) k (le-of-suc-le-suc h)
+-- ---- the test
 
 near? : Weight → Weight → Weight → Bool
 near? w a g = leb (off (re a g) (w .x)) productOff && leb (off (im a g) (w .y)) productOff
 
+near-yes : (w a g : Weight) → T (near? w a g) → Near productOff w a g
+unfolding near?
+near-yes w a g t =
+    let p = two-le (off (re a g) (w .x)) productOff (off (im a g) (w .y)) productOff t in
+    record { x = p .0; y = p .1 }
+
+abbrev pair? : ℕ → ℕ → Bool
+pair? d e = near? (weight d) (weight e) (weight (d + e))
+
 row? : ℕ → Bool
-row? d = walk quarter (near? (weight d)) table (drop d table)
+row? d = every quarter (pair? d)
 
 rows : T (every quarter row?)
-unfolding every row? walk near? weight table zipWith xs ys firstHalf firstQuarter
+unfolding every row? near? weight table zipWith xs ys firstHalf firstQuarter
 rows = tt
 
 -- ---- what holds of a product holds of it with one factor or both a quarter further
@@ -54,28 +44,16 @@ rows = tt
 on-re : (k ax ay gx gy wy : ℤ) → ax *ℤ negℤ gy +ℤ ay *ℤ gx -ℤ k *ℤ negℤ wy ≡ negℤ (ax *ℤ gy -ℤ ay *ℤ gx -ℤ k *ℤ wy)
 on-re k ax ay gx gy wy = simp (mul-neg, negℤ-+ℤ, negℤ-negℤ)
 
-on-im : (ax ay gx gy : ℤ) → ax *ℤ gx -ℤ ay *ℤ negℤ gy ≡ ax *ℤ gx +ℤ ay *ℤ gy
-on-im ax ay gx gy = simp (mul-neg, negℤ-negℤ)
-
-both-re : (ax ay gx gy : ℤ) → negℤ ay *ℤ negℤ gy +ℤ ax *ℤ gx ≡ ax *ℤ gx +ℤ ay *ℤ gy
-both-re ax ay gx gy = simp (mul-neg, neg-mul, negℤ-negℤ) (+ℤ-comm (ay *ℤ gy) (ax *ℤ gx))
-
-both-im : (ax ay gx gy : ℤ) → negℤ ay *ℤ gx -ℤ ax *ℤ negℤ gy ≡ ax *ℤ gy -ℤ ay *ℤ gx
-both-im ax ay gx gy = simp (mul-neg, neg-mul, negℤ-negℤ) (+ℤ-comm (negℤ (ay *ℤ gx)) (ax *ℤ gy))
-
 near-second : {n : ℕ} (w a g : Weight) → Near n w a g → Near n (turned w) a (turned g)
 near-second {n} w a g p = record {
-  x = subst (λ (m : ℕ). m ≤ n) (sym turned-x) (p .y);
-  y = subst (λ (z : ℤ). off z (w .x) ≤ n) (sym (on-im (a .x) (a .y) (g .x) (g .y))) (p .x);
+  x = rw (on-re (pos radius) (a .x) (a .y) (g .x) (g .y) (w .y), size-neg) (p .y);
+  y = simp (mul-neg, negℤ-negℤ) (p .x);
 }
-  where
-    turned-x : off (re a (turned g)) (turned w .x) ≡ off (im a g) (w .y)
-    turned-x = ap natAbs (on-re (pos radius) (a .x) (a .y) (g .x) (g .y) (w .y)) ∙ size-neg (im a g -ℤ pos radius *ℤ w .y)
 
 near-both : {n : ℕ} (w a g : Weight) → Near n w a g → Near n w (turned a) (turned g)
 near-both {n} w a g p = record {
-  x = subst (λ (z : ℤ). off z (w .x) ≤ n) (sym (both-re (a .x) (a .y) (g .x) (g .y))) (p .x);
-  y = subst (λ (z : ℤ). off z (w .y) ≤ n) (sym (both-im (a .x) (a .y) (g .x) (g .y))) (p .y);
+  x = simp (mul-neg, neg-mul, negℤ-negℤ) (rw (+ℤ-comm (a .y *ℤ g .y) (a .x *ℤ g .x)) (p .x));
+  y = rw (neg-mul (a .y), mul-neg (a .x), negℤ-negℤ, +ℤ-comm (negℤ (a .y *ℤ g .x)) (a .x *ℤ g .y)) (p .y);
 }
 
 -- ---- everywhere: conjugate(weight e) times weight (d + e), against weight d
@@ -84,32 +62,15 @@ Holds : ℕ → ℕ → Type 0
 Holds d e = Near productOff (weight d) (weight e) (weight (d + e))
 
 first : (d e : ℕ) → d < quarter → e < quarter → Holds d e
-unfolding Holds row? near? weight
-first d e h k =
-    let small : phase e ≡ e = omega arith in
-    let sum : phase (d + e) ≡ d + e = omega arith in
-    rw (small, sum, ← getD-drop d table e none) (record { x = t .0; y = t .1 })
-  where
-    w : Weight
-    w = weight d
-
-    a : Weight
-    a = getD table e none
-
-    g : Weight
-    g = getD (drop d table) e none
-
-    t : (off (re a g) (w .x) ≤ productOff) × (off (im a g) (w .y) ≤ productOff)
-    t =
-        two-le (off (re a g) (w .x)) productOff (off (im a g) (w .y)) productOff
-        (walk-at quarter (near? w) table (drop d table) (every-at quarter row? rows d h) e k)
+unfolding Holds row?
+first d e h k = near-yes _ _ _ (every-at quarter (pair? d) (every-at quarter row? rows d h) e k)
 
 -- what holds below a quarter, and a quarter further wherever it holds, holds everywhere
 climb : (P : ℕ → Type 0) → ((k : ℕ) → k < quarter → P k) → ((k : ℕ) → P k → P (k + quarter)) → (k : ℕ) → P k
 climb P low on k = subst P (omega (arith, div-add-mod k quarter)) (up (k / quarter))
   where
     up : (q : ℕ) → P (k % quarter + quarter * q)
-    up zero = subst P (omega arith) (low (k % quarter) (mod-lt k (lit< tt)))
+    up zero = subst P (omega arith) (low (k % quarter) (omega arith))
     up (suc q) = subst P (omega arith) (on (k % quarter + quarter * q) (up q))
 
 further : (d e g : ℕ) → g ≡ d + e + quarter → weight g ≡ turned (weight (d + e))
@@ -120,12 +81,8 @@ unfolding Holds
 holds d e =
     climb (λ (k : ℕ). Holds k e)
     (λ k h. climb (λ (m : ℕ). Holds k m) (λ m l. first k m h l)
-    (λ m p.
-    subst₃ (Near productOff) refl (sym (quarter-more m)) (sym (further k m _ (omega arith)))
-    (near-both (weight k) (weight m) (weight (k + m)) p)) e)
-    (λ k p.
-    subst₃ (Near productOff) (sym (quarter-more k)) refl (sym (further k e _ (omega arith)))
-    (near-second (weight k) (weight e) (weight (k + e)) p)) d
+    (λ m p. rw (quarter-more m, further k m (k + (m + quarter)) (omega arith)) (near-both _ _ _ p)) e)
+    (λ k p. rw (quarter-more k, further k e (k + quarter + e) (omega arith)) (near-second _ _ _ p)) d
 
 pub product-tight : (e g : ℕ) → Near productOff (weight (difference e g)) (weight e) (weight g)
 unfolding Holds

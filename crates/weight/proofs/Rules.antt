@@ -1,22 +1,22 @@
--- The rules of the table, each by one test over the whole of it, which antt computes.
-use mathlib.Core.Path.{_≡_, refl, sym, ap, ap₂, _∙_, subst}
+-- The rules of the table, each compared or tested over the whole of it, which antt computes; and the power of a port.
+use mathlib.Core.Path.{_≡_, refl, sym, ap, _∙_}
 use mathlib.Core.Bool.{Bool, _&&_}
-use mathlib.Core.List.{zipWith}
-use Prim.Native.Nat.{ℕ, _+_, _*_, _/_, _%_, _<_, _≤_}
-use native.Mathlib.Nat.{mod-mod, mod-lt, mod-add-mod}
+use mathlib.Core.List.{List, map, zipWith}
+use Prim.Native.Nat.{ℕ, zero, suc, _+_, _*_, _/_, _%_, _<_}
+use native.Mathlib.Nat.{mod-mod, suc-mul}
 use native.Mathlib.Omega.{arith}
-use lib.Dec.{T, leb, lit<}
+use lib.Dec.{T, leb}
 use lib.ListN.{getD}
-use lib.IntN.{ℤ, pos, negℤ, _+ℤ_}
-use lib.Signed.{ltZ, _<ℤ_, ltZ-yes}
-use Rattle.turn.specs.Phase.{turn, half, quarter, third, twelfth, phase}
-use Rattle.ground.proofs.Tests.{and-left, and-right, two-le, every-at}
+use lib.IntN.{ℤ, pos, _+ℤ_}
+use lib.Arith.{digits-lt}
 use Rattle.ground.specs.Lists.{every}
+use Rattle.ground.proofs.Tests.{two-le, every-at}
+use Rattle.turn.specs.Phase.{turn, half, quarter, third, twelfth, phase}
+use Rattle.turn.specs.Column.{steps}
 use Rattle.weight.specs.declared.Weight.{Weight}
 use Rattle.weight.specs.Table.{firstQuarter, firstHalf, xs, ys, table, none, weight}
-use Rattle.weight.specs.Products.{turned, power, Within, fullPower, limit, powerBelow, powerAbove}
-use Rattle.weight.proofs.Pairs.{one-weight}
-use Rattle.weight.proofs.Integers.{eqZ, eqZ→eq}
+use Rattle.weight.specs.Products.{turned, power, Within, fullPower, limit, powerBelow, powerAbove, portPower}
+use Rattle.weight.proofs.Pairs.{map-steps-at}
 
 -- ---- the weight of a number is that of its phase
 
@@ -34,30 +34,24 @@ x e = weight e .x
 abbrev pub y : ℕ → ℤ
 y e = weight e .y
 
-pub x-same : (a b : ℕ) → phase a ≡ phase b → x a ≡ x b
-x-same a b e = ap (λ (w : Weight). w .x) (weight-same a b e)
-
-pub y-same : (a b : ℕ) → phase a ≡ phase b → y a ≡ y b
-y-same a b e = ap (λ (w : Weight). w .y) (weight-same a b e)
+-- two functions of which the first n values, in a list, are the same
+agree : (f g : ℕ → Weight) (n : ℕ) → map f (steps n 1) ≡ map g (steps n 1) → (k : ℕ) → k < n → f k ≡ g k
+agree f g n q k h = sym (at f) ∙ ap (λ ws. getD ws k none) q ∙ at g
+  where
+    at : (u : ℕ → Weight) → getD (map u (steps n 1)) k none ≡ u k
+    at u = map-steps-at u n 1 k h ∙ ap u (omega arith)
 
 -- ---- a quarter more turns (x,y) into (-y,x)
 
-quarter? : ℕ → Bool
-quarter? e = eqZ (x (e + quarter)) (negℤ (y e)) && eqZ (y (e + quarter)) (x e)
-
-quarters : T (every turn quarter?)
-unfolding every quarter? eqZ weight table zipWith xs ys firstHalf firstQuarter
-quarters = tt
+quarters : map (λ e. weight (e + quarter)) (steps turn 1) ≡ map (λ e. turned (weight e)) (steps turn 1)
+unfolding steps weight table zipWith xs ys firstHalf firstQuarter
+quarters = refl
 
 pub quarter-more : (e : ℕ) → weight (e + quarter) ≡ turned (weight e)
-unfolding quarter?
 quarter-more e =
-    weight-same (e + quarter) (phase e + quarter) (sym (mod-add-mod e turn quarter))
-    ∙ one-weight (eqZ→eq _ _ (and-left (eqZ _ _) (eqZ _ _) t)) (eqZ→eq _ _ (and-right (eqZ _ _) (eqZ _ _) t))
+    weight-same (e + quarter) (phase e + quarter) (omega arith)
+    ∙ agree (λ e. weight (e + quarter)) (λ e. turned (weight e)) turn quarters (phase e) (omega arith)
     ∙ ap turned (weight-phase e)
-  where
-    t : T (quarter? (phase e))
-    t = every-at turn quarter? quarters (phase e) (mod-lt e (lit< tt))
 
 -- so half a turn more turns it into its opposite
 pub half-more : (e : ℕ) → weight (e + half) ≡ turned (turned (weight e))
@@ -65,50 +59,41 @@ half-more e = ap weight (omega arith) ∙ quarter-more (e + quarter) ∙ ap turn
 
 -- ---- three weights a third of a turn apart sum to zero, at every whole twelfth of a turn
 
-abbrev three : (ℕ → ℤ) → ℕ → ℤ
-three f e = f e +ℤ f (e + third) +ℤ f (e + (third + third))
+abbrev three : (Weight → ℤ) → ℕ → ℤ
+three part e = part (weight e) +ℤ part (weight (e + third)) +ℤ part (weight (e + (third + third)))
 
-pub record Balanced (f : ℕ → ℤ) (e : ℕ) : Type 0 where
-  pub zero-sum : three f e ≡ pos 0
+abbrev sums : ℕ → Weight
+sums k = record { x = three (λ w. w .x) (twelfth * k); y = three (λ w. w .y) (twelfth * k) }
 
-thirds? : ℕ → Bool
-thirds? k = eqZ (three x (twelfth * k)) (pos 0) && eqZ (three y (twelfth * k)) (pos 0)
+thirds : map sums (steps (turn / twelfth) 1) ≡ map (λ k. none) (steps (turn / twelfth) 1)
+unfolding steps weight table zipWith xs ys firstHalf firstQuarter
+thirds = refl
 
-thirds : T (every (turn / twelfth) thirds?)
-unfolding every thirds? eqZ weight table zipWith xs ys firstHalf firstQuarter
-thirds = tt
+pub record Balanced (part : Weight → ℤ) (e : ℕ) : Type 0 where
+  pub zero-sum : three part e ≡ pos 0
 
-pub balanced : (e : ℕ) → e % twelfth ≡ 0 → Balanced x e × Balanced y e
-unfolding thirds?
+pub balanced : (e : ℕ) → e % twelfth ≡ 0 → Balanced (λ w. w .x) e × Balanced (λ w. w .y) e
 balanced e h = (
-  record { zero-sum = at x x-same ∙ eqZ→eq _ _ (and-left (eqZ _ _) (eqZ _ _) t) },
-  record { zero-sum = at y y-same ∙ eqZ→eq _ _ (and-right (eqZ _ _) (eqZ _ _) t) },
+  record { zero-sum = at (λ w. w .x) ∙ ap (λ (w : Weight). w .x) zero },
+  record { zero-sum = at (λ w. w .y) ∙ ap (λ (w : Weight). w .y) zero },
 )
   where
     k : ℕ
     k = phase e / twelfth
 
-    t : T (thirds? k)
-    t = every-at (turn / twelfth) thirds? thirds k (omega arith)
+    zero : sums k ≡ none
+    zero = agree sums (λ k. none) (turn / twelfth) thirds k (omega arith)
 
-    at : (f : ℕ → ℤ) → ((a b : ℕ) → phase a ≡ phase b → f a ≡ f b) → three f e ≡ three f (twelfth * k)
-    at f same = ap₂ _+ℤ_ (ap₂ _+ℤ_ (same e (twelfth * k) (omega arith)) (same _ _ (omega arith))) (same _ _ (omega arith))
+    at : (part : Weight → ℤ) → three part e ≡ three part (twelfth * k)
+    at part =
+        rw (
+          weight-same e (twelfth * k) (omega arith),
+          weight-same (e + third) (twelfth * k + third) (omega arith),
+          weight-same (e + (third + third)) (twelfth * k + (third + third)) (omega arith),
+        )
 
 pub thirds-sum : (x 0 +ℤ x third +ℤ x (third + third) ≡ pos 0) × (y 0 +ℤ y third +ℤ y (third + third) ≡ pos 0)
 thirds-sum = (balanced 0 (omega arith) .0 .zero-sum, balanced 0 (omega arith) .1 .zero-sum)
-
--- ---- x falls strictly over the first quarter
-
-falls? : ℕ → Bool
-falls? e = ltZ (x (e + 1)) (x e)
-
-all-fall : T (every quarter falls?)
-unfolding every falls? weight table zipWith xs ys firstHalf firstQuarter
-all-fall = tt
-
-pub falls : (e : ℕ) → e < quarter → x (e + 1) <ℤ x e
-unfolding falls?
-falls e h = ltZ-yes (every-at quarter falls? all-fall e h)
 
 -- ---- powers
 
@@ -122,16 +107,11 @@ powers = tt
 pub power-tight : (e : ℕ) → Within fullPower powerBelow powerAbove (power (weight e))
 unfolding power?
 power-tight e =
-    subst (λ (v : Weight). Within fullPower powerBelow powerAbove (power v)) (weight-phase e)
-    (record { low = t .0; high = t .1 })
-  where
-    w : Weight
-    w = weight (phase e)
-
-    t : (fullPower ≤ power w + powerBelow) × (power w ≤ fullPower + powerAbove)
-    t =
-        two-le (fullPower) (power w + powerBelow) (power w) (fullPower + powerAbove)
-        (every-at turn power? powers (phase e) (mod-lt e (lit< tt)))
+    rw (← weight-phase e)
+    (let w = weight (phase e) in
+    let t = two-le fullPower (power w + powerBelow) (power w) (fullPower + powerAbove)
+    (every-at turn power? powers (phase e) (omega arith)) in
+    record { low = t .0; high = t .1 })
 
 pub power-within : (e : ℕ) → Within fullPower limit limit (power (weight e))
 power-within e = let p = power-tight e in record { low = omega arith; high = omega arith }
@@ -144,3 +124,17 @@ power-lowest = refl
 pub power-highest : power (weight 9) ≡ fullPower + powerAbove
 unfolding weight table zipWith xs ys firstHalf firstQuarter
 power-highest = refl
+
+-- where each of v times p weights has a power within n below and m above c, a port has one within v times these
+pub port-within : (c n m v p q : ℕ) (ws : List Weight) → q < p
+    → ((i : ℕ) → i < v * p → Within c n m (power (getD ws i none)))
+    → Within (v * c) (v * n) (v * m) (portPower v p q ws)
+unfolding portPower
+port-within c n m zero p q ws h each = record { low = omega arith; high = omega arith }
+port-within c n m (suc v) p q ws h each =
+    let before = port-within c n m v p q ws h (λ i k. each i (omega (arith, suc-mul v p))) in
+    let last = each (v * p + q) (digits-lt (omega arith) h) in
+    record {
+      low = omega (arith, suc-mul v c, suc-mul v n, before .low, last .low);
+      high = omega (arith, suc-mul v c, suc-mul v m, before .high, last .high);
+    }

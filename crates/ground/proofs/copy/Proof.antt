@@ -3,9 +3,8 @@ use mathlib.Core.Path.{_≡_, refl, sym}
 use mathlib.Core.List.{_++_}
 use Prim.Native.Nat.{_-_, _≤_}
 use native.Mathlib.Omega.{arith}
-use lib.Dec.{leb}
-use lib.ListN.{length, take, drop, length-set}
-use lib.Seq.{length-take-le, getD-take}
+use lib.ListN.{length, take, drop, length-set, length-take}
+use lib.Seq.{getD-take}
 use borrow.Author.Tests.{le-leb, lt-leb}
 use Rattle.ground.proofs.Booleans.{and-nothing}
 use Rattle.ground.proofs.Written.{stored, stored-all}
@@ -22,9 +21,7 @@ returns : tie.Need-returns Inv-loop μ-loop
 returns c = record { fits = rw (lt-leb _ _ (c .if1 .taken)); stands = refl }
 
 returns-2 : tie.Need-returns-2 Inv-loop μ-loop
-returns-2 c =
-    let a = c .before .before .args in
-    record { fits = rw (lt-leb _ _ (c .if2 .taken)) (sym (and-nothing (leb (a .n) (length (a .from .now))))); stands = refl }
+returns-2 c = record { fits = rw (lt-leb _ _ (c .if2 .taken), and-nothing); stands = refl }
 
 loop-holds : tie.Need-loop-holds Inv-loop μ-loop
 loop-holds c = (omega arith, refl, refl)
@@ -32,24 +29,20 @@ loop-holds c = (omega arith, refl, refl)
 loop-again : tie.Need-loop-again Inv-loop μ-loop
 loop-again c =
     let l = c .before .before .loop in
-    let few = c .before .before .before in
-    let a = few .before .before .args in
-    let long = length-take-le (a .n) (a .from .now) (few .before .if1 .left) in
+    let a = c .before .before .before .before .before .args in
     let entry = sym (getD-take (a .n) (a .from .now) (l .i) 0 (c .before .loop-test .taken)) in (
       omega arith,
-      stored _ _ (a .n) (l .i) 0 (l .inv .1) entry long (c .before .loop-test .taken) (few .if2 .left),
+      stored _ _ (a .n) (l .i) 0 (l .inv .1) entry (simp length-take (omega arith)) (omega arith) (omega arith),
       simp length-set (l .inv .2),
     )
 
 returns-3 : tie.Need-returns-3 Inv-loop μ-loop
 returns-3 c =
-    let l = c .before .loop in
     let few = c .before .before in
-    let a = few .before .before .args in
-    let long = length-take-le (a .n) (a .from .now) (few .before .if1 .left) in
+    let l = c .before .loop in
     record {
       fits = rw (le-leb _ _ (few .before .if1 .left), le-leb _ _ (few .if2 .left));
-      stands = stored-all _ _ (a .n) (l .i) (l .inv .1) long (omega arith);
+      stands = stored-all _ _ (few .before .before .args .n) (l .i) (l .inv .1) (simp length-take (omega arith)) (omega arith);
     }
 
 pub copy-spec : {M : Type 1} → statement M
