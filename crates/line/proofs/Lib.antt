@@ -1,7 +1,6 @@
 -- Laws that the proofs share, then theorems.
 pub mod Leading
 pub mod Scanned
-pub mod Joined
 pub mod Forms
 pub mod Answered
 pub mod Mask

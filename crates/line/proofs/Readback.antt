@@ -11,8 +11,7 @@ use Rattle.ground.proofs.Tests.{and-left, and-right, every-at}
 use Rattle.ground.proofs.Booleans.{and-true-left, and-true-right}
 use Rattle.text.specs.Words.{written, lineOf}
 use Rattle.line.specs.Form.{isDigit, value, valueAfter, isDecimal}
-use Rattle.line.proofs.Scanned.{words}
-use Rattle.line.proofs.Joined.{joined-words}
+use Rattle.line.proofs.Scanned.{words, joined-found}
 
 is-true : (b : Bool) → T b → b ≡ true
 is-true true t = refl
@@ -57,5 +56,5 @@ pub row-reads : (xs : List ℕ) → each isShort xs ≡ true → map value (word
 unfolding lineOf
 row-reads xs h =
     ap (λ (n : ℕ). map value (words n (lineOf xs))) (sym (length-map xs written))
-    ∙ ap (map value) (joined-words (map written xs) (decimals xs h))
+    ∙ ap (map value) (joined-found (map written xs) (decimals xs h) .1)
     ∙ values xs h
