@@ -2,8 +2,7 @@
 use mathlib.Core.Path.{_≡_, refl, sym, ap, _∙_}
 use mathlib.Core.Bool.{true, false, false≢true}
 use mathlib.Core.List.{List, map}
-use Prim.Native.Nat.{ℕ, _<_, _≤_}
-use native.Mathlib.Omega.{arith}
+use Prim.Native.Nat.{ℕ, _≤_}
 use lib.ListN.{length, getD, length-map}
 use Rattle.report.specs.declared.Report.{Report}
 use Rattle.line.specs.declared.Reading.{Reading}
@@ -28,12 +27,9 @@ reads-report line h g e =
     let found = good-found 8 line g in
     record { words = words 8 line; decimals = found .0; values = e; joins = found .1; few = h }
 
--- and has none if it is not, or is too long
+-- and has none if it is not
 pub reads-nothing : (line : List ℕ) → good 8 line ≡ false → Reads line Unreadable
 reads-nothing line g r f = false≢true (sym g ∙ form-found f .0)
-
-pub too-long : (line : List ℕ) → 256 < length line → Reads line Unreadable
-too-long line h r f = omega (arith, f .few)
 
 -- ---- a line has one reading
 

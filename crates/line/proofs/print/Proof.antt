@@ -1,12 +1,10 @@
 -- `print` meets its contract: each of its cases is that of the reading.
+use native.Mathlib.Omega.{arith}
 use borrow.Author.Needs.{needs}
 use Rattle.line.specs.declared.Reading.the-variants.{Unreadable}
 use Rattle.line.proofs.Texts.{outcome-of}
 use Rattle.line.proofs.print.Statement.{statement}
 use Rattle.line.proofs.print.Tie as tie
-
-answer-to-requires : tie.Need-answer-to-requires
-answer-to-requires c κs = tt
 
 returns : tie.Need-returns
 returns c =
@@ -17,12 +15,6 @@ returns c =
       reads = r .before .before .read .ensures;
       outcome = rw (r .r .given .1) (a .answer-to .ensures);
     }
-
-unreadable-requires : tie.Need-unreadable-requires
-unreadable-requires c κs = tt
-
-given-requires : tie.Need-given-requires
-given-requires c κs = tt
 
 returns-2 : tie.Need-returns-2
 returns-2 c =
@@ -40,11 +32,11 @@ print-spec =
     (tie.spec
     (λ c κs. tt)
     (λ c. search needs)
-    answer-to-requires
-    (λ c. c .before .before .answer-to .kept .1 .0)
+    (λ c κs. tt)
+    (λ c. omega arith)
     returns
     (λ c. search needs)
-    unreadable-requires
-    given-requires
-    (λ c. c .before .before .before .unreadable .kept .0)
+    (λ c κs. tt)
+    (λ c κs. tt)
+    (λ c. omega arith)
     returns-2)
