@@ -1,4 +1,5 @@
 -- `print` meets its contract: each of its cases is that of the reading.
+use mathlib.Core.Path.{refl}
 use native.Mathlib.Omega.{arith}
 use borrow.Author.Needs.{needs}
 use Rattle.line.specs.declared.Reading.the-variants.{Unreadable}
@@ -23,7 +24,7 @@ returns-2 c =
     record {
       reading = t .before .before .read .result;
       reads = t .before .before .read .ensures;
-      outcome = rw (t .enum-told .given .1) (outcome-of Unreadable (u .unreadable .ensures) (c .given .ensures));
+      outcome = rw (t .enum-told .given .1) (outcome-of Unreadable (u .unreadable .ensures) refl (c .given .ensures));
     }
 
 pub print-spec : {M : Type 1} → statement M
