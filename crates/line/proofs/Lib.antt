@@ -3,7 +3,6 @@ pub mod Leading
 pub mod Scanned
 pub mod Forms
 pub mod Answered
-pub mod Mask
 pub mod Texts
 pub mod Example
 pub mod Readback

@@ -1,5 +1,4 @@
--- The record for a report and its text: what a call of `phases` with all mask bits ones gives and leaves, and how long the
--- text is.
+-- The mask, the record and the text for a report: what a call of `phases` with all mask bits ones gives and leaves.
 use mathlib.Core.Path.{_≡_, refl, sym, ap, _∙_}
 use mathlib.Core.Bool.{true}
 use mathlib.Core.List.{List}
@@ -7,7 +6,7 @@ use Prim.Native.Nat.{ℕ, zero, suc, _*_, _<_, _≤_}
 use native.Mathlib.Omega.{arith}
 use borrow.Author.Needs.{needs}
 use lib.Dec.{eqb, leb, leb→le}
-use lib.ListN.{length}
+use lib.ListN.{length, take, replicate}
 use borrow.Author.Tests.{ltb-false}
 use Rattle.ground.specs.Cases.{_⇒_∣_}
 use Rattle.ground.specs.Lists.{each, among}
@@ -19,6 +18,8 @@ use Rattle.plan.specs.Sound.{Sound}
 use Rattle.plan.specs.Answer.{refused, planned, recordOf, bufferOf, test, refusal, Called}
 use Rattle.plan.proofs.Calls.{rules-passed}
 use Rattle.plan.proofs.Matrix.{length-matrix}
+use Rattle.settings.specs.Settings.{isSetting, maskBytes}
+use Rattle.settings.proofs.Known.{mask-few}
 use Rattle.report.specs.declared.Report.{Report}
 use Rattle.single.specs.Plan.{plan}
 use Rattle.single.specs.Single.{order, single}
@@ -32,11 +33,28 @@ use Rattle.line.specs.declared.Answer.{Answer}
 use Rattle.line.specs.declared.Answer.the-variants.{NoRoom}
 use Rattle.line.specs.declared.Printed.{Printed}
 use Rattle.line.specs.Prints.{fullMask, askedOf, refusalOf, recordFor, answerBy, answerOf, textOf, Outcome, Prints}
+use Rattle.line.proofs.Leading.{by-test}
 use Rattle.line.proofs.Answered.{first-passes}
 
-module _ (r : Report) where
-  -- ---- the record
+-- ---- the beam mask whose bits are all ones, as a part of 32 bytes
 
+take-replicate : {A : Type 0} (n m : ℕ) (a : A) → n ≤ m → take n (replicate m a) ≡ replicate n a
+take-replicate zero m a h = refl
+take-replicate (suc n) zero a h = absurd (omega arith)
+take-replicate (suc n) (suc m) a h = rw (take-replicate n m a (omega arith))
+
+module _ (n1 n2 : ℕ) {n : ℕ} (e : n ≡ (isSetting n1 n2 ⇒ maskBytes n1 n2 ∣ 0)) where
+  pub bytes-few : n ≤ 32
+  bytes-few = rw e (by-test (isSetting n1 n2) (λ s. rw s (mask-few n1 n2 s)) (λ s. rw s (omega arith)))
+
+  -- so many of 32 bytes are the mask
+  pub bytes-full : take n (replicate 32 255) ≡ fullMask n1 n2
+  unfolding fullMask
+  bytes-full = take-replicate n 32 255 bytes-few ∙ rw e
+
+-- ---- the record
+
+module _ (r : Report) where
   refusal-few : refusalOf r ≤ 11
   unfolding each refusal refusalOf
   refusal-few = leb→le _ 11 (first-passes (λ k. leb k 11) (test single (askedOf r)) tt order tt)

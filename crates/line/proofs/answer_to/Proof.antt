@@ -3,8 +3,7 @@ use mathlib.Core.Path.{refl}
 use Prim.Native.Nat.{_≤_}
 use native.Mathlib.Omega.{arith}
 use lib.ListN.{length-take}
-use Rattle.line.proofs.Mask.{bytes-few, bytes-full}
-use Rattle.line.proofs.Texts.{outcome-read}
+use Rattle.line.proofs.Texts.{bytes-few, bytes-full, outcome-read}
 use Rattle.line.proofs.answer_to.Statement.{statement}
 use Rattle.line.proofs.answer_to.Tie as tie
 
