@@ -5,15 +5,15 @@ use mathlib.Core.List.{List, [], _∷_, _++_}
 use Prim.Native.Nat.{ℕ, zero, suc, _+_, _-_, _<_, _≤_}
 use native.Mathlib.Numerals.{add-one}
 use native.Mathlib.Omega.{arith}
-use lib.Dec.{leb, ltb}
+use lib.Dec.{eqb, leb, ltb}
 use lib.ListN.{length, drop, getD}
 use borrow.Author.Tests.{leb-true, le-leb, ltb-true, ltb-false}
 use Rattle.ground.proofs.Booleans.{and-true-left, and-true-right}
 use Rattle.ground.specs.Cases.{_⇒_∣_}
 use Rattle.ground.specs.Lists.{each}
-use Rattle.text.specs.Words.{nought}
+use Rattle.text.specs.Words.{nought, ending}
 use Rattle.line.specs.Form.{isDigit, value, isDecimal}
-use Rattle.line.specs.Scan.{lead, next}
+use Rattle.line.specs.Scan.{lead, next, isEnded}
 
 -- what follows from either side of a test
 pub by-test : {A : Type 0} (t : Bool) → (t ≡ true → A) → (t ≡ false → A) → A
@@ -85,7 +85,8 @@ lead-word (suc k) (b ∷ w) x bs d h n =
     rw (and-true-left (isDigit b) _ d)
     (ap (λ (y : List ℕ). b ∷ y) (lead-word k w x bs (and-true-right (isDigit b) _ d) (omega arith) n))
 
--- what leads is a decimal if it has a digit and is at most 65535
-pub decimal-next : (bs : List ℕ) → isDecimal (next bs) ≡ (leb 1 (length (next bs)) && leb (value (next bs)) 65535)
-unfolding isDecimal
-decimal-next bs = rw (lead-digits 5 bs, le-leb (length (next bs)) 5 (lead-few 5 bs))
+-- what leads is an ended decimal if it has a digit, is at most 65535, and is followed by what ends it
+pub ended-next : (bs : List ℕ) (left : ℕ) → isEnded bs left
+    ≡ (leb 1 (length (next bs)) && leb (value (next bs)) 65535 && eqb (getD bs (length (next bs)) 0) (ending left))
+unfolding isEnded isDecimal
+ended-next bs left = rw (lead-digits 5 bs, le-leb (length (next bs)) 5 (lead-few 5 bs))
