@@ -1,12 +1,12 @@
 -- What the printing program refuses: its masks bar nothing and its buffer has room, so that the report alone decides.
-use mathlib.Core.Path.{_≡_, refl, sym, ap, _∙_, subst}
+use mathlib.Core.Path.{_≡_, refl, sym, ap, _∙_}
 use mathlib.Core.Logic.{_≢_}
 use mathlib.Core.Bool.{Bool, true, false, not, _||_}
 use mathlib.Core.List.{List, [], _∷_, _++_}
 use Prim.Native.Nat.{ℕ, zero, suc, _-_, _*_, _/_, _%_, _<_}
 use native.Mathlib.Nat.{mul-le-mul}
 use native.Mathlib.Omega.{arith}
-use lib.Dec.{T, T-not, eqb, eqb-refl, eqb→eq}
+use lib.Dec.{T, eqb, eqb-refl, eqb→eq}
 use lib.ListN.{length, replicate, length-replicate, getD-replicate}
 use borrow.Author.Tests.{not-false, eq-eqb, le-ltb}
 use Rattle.ground.specs.Lists.{some, each, every, among}
@@ -130,7 +130,5 @@ module _ (r : Report) where
   unfolding each
   never-given =
       let given : ℕ → Bool = λ k. not (eqb k 3 || eqb k 5 || eqb k 10 || eqb k 11) in
-      let passes = first-passes given (rule r) tt ownOrder tt in
-      let never : (k : ℕ) → T (not (given k)) → refusalOf r ≢ k =
-      λ k u e. T-not (given k) u (subst (λ (n : ℕ). T (given n)) (sym refused-by-report ∙ e) passes) in
-      (never 3 tt, never 5 tt, never 10 tt, never 11 tt)
+      let passes = rw (← refused-by-report) at (first-passes given (rule r) tt ownOrder tt) in
+      (λ e. rw e at passes, λ e. rw e at passes, λ e. rw e at passes, λ e. rw e at passes)

@@ -1,6 +1,6 @@
 -- `write::lines` meets its contract: each turn has one phase more written after those that stand, and what follows it.
 use mathlib.Core.Path.{_≡_}
-use Prim.Native.Nat.{_+_, _-_, _%_, _*_, _<_, _≤_}
+use Prim.Native.Nat.{_+_, _-_, _*_, _≤_}
 use native.Mathlib.Nat.{mod-lt}
 use native.Mathlib.Numerals.{add-one}
 use native.Mathlib.Omega.{arith}
@@ -20,13 +20,9 @@ loop-holds : tie.Need-loop-holds Inv-loop μ-loop
 unfolding linesBegun
 loop-holds c = (omega arith, adds-nothing _ _ (omega arith), omega arith)
 
--- a line has a phase, and the place of a phase is within it
+-- a line has a phase
 some : (c : tie.In-loop Inv-loop μ-loop) → 1 ≤ c .before .before .before .before .args .p
 some c = width-some _ _ _ (c .loop-test .taken)
-
-place : (c : tie.In-loop Inv-loop μ-loop)
-    → let p = c .before .before .before .before .args .p in c .before .loop .i % p < p
-place c = mod-lt _ (some c)
 
 ended-requires : tie.Need-ended-requires Inv-loop μ-loop
 ended-requires c κs = omega (arith, adds-length (c .before .before .before .loop .inv .1))
@@ -57,7 +53,7 @@ lines-spec =
     (λ c. omega (arith, c .shared-slice-known2 .given (c .before .before .loop .i)))
     (λ c. some (c .before))
     (λ c. some (c .before))
-    (λ c. omega (arith, place (c .before)))
+    (λ c. omega (arith, mod-lt (c .before .before .loop .i) (some (c .before))))
     ended-requires
     (λ c. omega arith)
     (λ c. omega arith)
