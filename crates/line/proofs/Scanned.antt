@@ -46,15 +46,11 @@ rest-at {end} at line l =
 
 -- ---- what follows a word
 
-ending-no-digit : (left : ℕ) → isDigit (ending left) ≡ false
+-- it is no digit, and is not 0
+ending-kind : (left : ℕ) → (isDigit (ending left) ≡ false) × (0 < ending left)
 unfolding isDigit ending
-ending-no-digit zero = refl
-ending-no-digit (suc left) = refl
-
-ending-positive : (left : ℕ) → 0 < ending left
-unfolding ending
-ending-positive zero = omega arith
-ending-positive (suc left) = omega arith
+ending-kind zero = (refl, omega arith)
+ending-kind (suc left) = (refl, omega arith)
 
 module _ (bs : List ℕ) (left : ℕ) (e : isEnded bs left ≡ true) where
   ended-byte : getD bs (length (next bs)) 0 ≡ ending left
@@ -65,7 +61,7 @@ module _ (bs : List ℕ) (left : ℕ) (e : isEnded bs left ≡ true) where
   ended-within : length (next bs) < length bs
   ended-within =
       by-test (ltb (length (next bs)) (length bs)) (λ t. ltb-true _ _ t)
-      (λ t. absurd (omega (arith, List·getD-eq-default bs 0 (ltb-false _ _ t), ended-byte, ending-positive left)))
+      (λ t. absurd (omega (arith, List·getD-eq-default bs 0 (ltb-false _ _ t), ended-byte, ending-kind left)))
 
   -- the text is its next word, the byte that follows it, and the rest
   ended-joined : bs ≡ next bs ++ ending left ∷ rest bs
@@ -96,7 +92,7 @@ module _ (w : List ℕ) (d : isDecimal w ≡ true) (left : ℕ) (bs : List ℕ) 
   next-joined =
       let h = and-true-right (each isDigit w) _ d in
       let few = and-true-left (leb (length w) 5) _ (and-true-right (leb 1 (length w)) _ h) in
-      lead-word 5 w (ending left) bs (and-true-left (each isDigit w) _ d) (leb-true _ _ few) (ending-no-digit left)
+      lead-word 5 w (ending left) bs (and-true-left (each isDigit w) _ d) (leb-true _ _ few) (ending-kind left .0)
 
   rest-joined : rest (w ++ ending left ∷ bs) ≡ bs
   unfolding rest

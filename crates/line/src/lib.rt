@@ -60,6 +60,9 @@ fn report_of(values: [u32; 8]) -> Report
 pub fn read(line: &[u8]) -> Reading
     ensures { λ a. ⌜ Reads (now (line .entry)) a ⌝ }
 {
+    if line.len() > LONGEST_LINE {
+        return Reading::Unreadable;
+    }
     let mut values = [0; 8];
     let mut at = 0;
     let mut j = 0;

@@ -22,17 +22,20 @@ Inv-loop line values₀ at₀ j₀ values at j =
 abbrev μ-loop : tie.MeasureT-loop
 μ-loop line values₀ at₀ j₀ values at j = 8 - j
 
+returns : tie.Need-returns Inv-loop μ-loop
+returns c r f = omega (arith, f .few)
+
 loop-holds : tie.Need-loop-holds Inv-loop μ-loop
 loop-holds c = (omega arith, omega arith, refl, refl, refl)
 
 ends-requires : tie.Need-ends-requires Inv-loop μ-loop
 ends-requires c κs = c .leading .ensures .0
 
-returns : tie.Need-returns Inv-loop μ-loop
+returns-2 : tie.Need-returns-2 Inv-loop μ-loop
 unfolding good
-returns c =
+returns-2 c =
     let l = c .before .before .before .before .loop in
-    let not-ended = sym (c .before .ends .ensures) ∙ not-true _ (c .if1 .taken) in
+    let not-ended = sym (c .before .ends .ensures) ∙ not-true _ (c .if2 .taken) in
     let so-many : 8 - l .j ≡ suc (7 - l .j) = omega arith in
     reads-nothing _ (l .inv .3 ∙ rw (so-many, not-ended))
 
@@ -47,9 +50,9 @@ loop-again c =
     let e = c .before in
     let t = e .before .before .before .before in
     let l = t .loop in
-    let line : List ℕ = t .before .before .args .line .now in
+    let line : List ℕ = t .before .before .before .args .line .now in
     let n = e .before .before .leading in
-    let ended = sym (e .before .ends .ensures) ∙ not-false _ (e .if1 .left) in
+    let ended = sym (e .before .ends .ensures) ∙ not-false _ (e .if2 .left) in
     let so-many : 8 - l .j ≡ suc (7 - l .j) = omega arith in
     let fewer : 8 - (l .j + 1) ≡ 7 - l .j = omega arith in
     let later = rest-at (l .at) line (n .ensures .0 .end) in
@@ -61,21 +64,21 @@ loop-again c =
       rw fewer (stored-next (l .values) _ (l .j) (n .result .value) numbers (omega arith)),
     )
 
-returns-2 : tie.Need-returns-2 Inv-loop μ-loop
+returns-3 : tie.Need-returns-3 Inv-loop μ-loop
 unfolding good
-returns-2 c =
+returns-3 c =
     let t = c .before .before in
     let l = t .loop in
-    let line : List ℕ = t .before .before .args .line .now in
+    let line : List ℕ = t .before .before .before .args .line .now in
     let none : 8 - l .j ≡ 0 = omega arith in
     reads-nothing line (l .inv .3 ∙ rw (none, drop-cons line (l .at) 0 (omega arith)))
 
-returns-3 : tie.Need-returns-3 Inv-loop μ-loop
+returns-4 : tie.Need-returns-4 Inv-loop μ-loop
 unfolding good words
-returns-3 c =
+returns-4 c =
     let t = c .before .before .before in
     let l = t .loop in
-    let line : List ℕ = t .before .before .args .line .now in
+    let line : List ℕ = t .before .before .before .args .line .now in
     let none : 8 - l .j ≡ 0 = omega arith in
     let past : length line ≤ l .at = omega arith in
     let all = take-all (l .j) (l .values) (omega arith) in
@@ -88,17 +91,18 @@ read-spec =
     (tie.spec
     Inv-loop
     μ-loop
+    returns
     loop-holds
     (λ c κs. omega arith)
     (λ c. omega arith)
     ends-requires
-    returns
+    returns-2
     (λ c. omega arith)
     (λ c. omega arith)
     (λ c. omega arith)
     (λ c. omega arith)
     (λ c. omega arith)
     loop-again
-    returns-2
+    returns-3
     (λ c κs. tt)
-    returns-3)
+    returns-4)

@@ -47,10 +47,9 @@ loop-again c =
     let t = c .before .before .before in
     let s = t .before .before in
     let l = t .loop in
-    let line = s .args .line .now in
     let b = c .byte-at in
     let taken = sym (c .before .before .is-digit .ensures) ∙ c .before .if1 .taken in
-    let more = rw taken at (lead-at (s .args .from + 5) (l .end) line) in
+    let more = rw taken at (lead-at (s .args .from + 5) (l .end) (s .args .line .now)) in
     let place : l .end + 1 - s .args .from ≡ suc (l .end - s .args .from) = omega arith in (
       omega arith,
       omega (arith, known (c .before)),
