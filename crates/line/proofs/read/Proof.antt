@@ -1,11 +1,11 @@
 -- `read` meets its contract: at each turn the line is good if what is left of it is, and its numbers are those that are
 -- stored and those that are left.
 use mathlib.Core.Path.{_≡_, refl, sym, _∙_}
-use mathlib.Core.List.{List, _∷_, _++_, map, append-nil}
-use Prim.Native.Nat.{ℕ, suc, _+_, _-_, _*_, _<_, _≤_}
+use mathlib.Core.List.{List, _++_, map, append-nil}
+use Prim.Native.Nat.{ℕ, suc, _+_, _-_, _*_, _≤_}
 use native.Mathlib.Numerals.{add-one}
 use native.Mathlib.Omega.{arith}
-use lib.ListN.{length, take, drop, set, length-set, drop-of-length-le}
+use lib.ListN.{length, take, drop, length-set, drop-of-length-le}
 use lib.Seq.{take-all, take-suc-set, drop-cons, append-snoc}
 use borrow.Author.Tests.{not-false, not-true}
 use Rattle.line.specs.Form.{value}
@@ -39,11 +39,6 @@ returns-2 c =
     let so-many : 8 - l .j ≡ suc (7 - l .j) = omega arith in
     reads-nothing _ (l .inv .3 ∙ rw (so-many, not-ended))
 
--- a number more is stored
-stored-next : {xs : List ℕ} (ns ys : List ℕ) (j n : ℕ) → xs ≡ take j ns ++ n ∷ ys → j < length ns
-    → xs ≡ take (j + 1) (set ns j n) ++ ys
-stored-next ns ys j n e h = e ∙ sym (rw (add-one, take-suc-set ns j n h) (append-snoc (take j ns) n ys))
-
 loop-again : tie.Need-loop-again Inv-loop μ-loop
 unfolding good words
 loop-again c =
@@ -56,12 +51,13 @@ loop-again c =
     let so-many : 8 - l .j ≡ suc (7 - l .j) = omega arith in
     let fewer : 8 - (l .j + 1) ≡ 7 - l .j = omega arith in
     let later = rest-at (l .at) line (n .ensures .0 .end) in
-    let numbers = rw (so-many, later, ← n .ensures .0 .value) at (l .inv .4) in (
+    let numbers = rw (so-many, later, ← n .ensures .0 .value) at (l .inv .4) in
+    let stored = take-suc-set (l .values) (l .j) (n .result .value) (omega arith) in (
       omega arith,
       omega arith,
       simp length-set (l .inv .2),
       rw fewer (l .inv .3 ∙ rw (so-many, ended, later)),
-      rw fewer (stored-next (l .values) _ (l .j) (n .result .value) numbers (omega arith)),
+      rw (fewer, add-one (l .j), stored) (numbers ∙ sym (append-snoc (take (l .j) (l .values)) _ _)),
     )
 
 returns-3 : tie.Need-returns-3 Inv-loop μ-loop
