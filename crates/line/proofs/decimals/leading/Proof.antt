@@ -1,7 +1,7 @@
 -- `decimals::leading` meets its contract: at each turn the digits that are left complete the number and its end.
-use mathlib.Core.Path.{_≡_, refl, sym, ap, _∙_}
-use Prim.Native.Nat.{suc, _+_, _-_, _<_, _≤_, _^_}
-use native.Mathlib.Nat.{pow-suc, pow-le-pow-right}
+use mathlib.Core.Path.{_≡_, sym, ap, _∙_}
+use Prim.Native.Nat.{ℕ, suc, _+_, _-_, _<_, _≤_, _^_}
+use native.Mathlib.Nat.{pow-suc, one-le-pow, pow-le-pow-right}
 use native.Mathlib.Omega.{arith}
 use lib.ListN.{length, drop, getD}
 use Rattle.text.specs.Words.{nought}
@@ -22,10 +22,13 @@ abbrev μ-loop : tie.MeasureT-loop
 
 loop-holds : tie.Need-loop-holds Inv-loop μ-loop
 loop-holds c =
-    let from = c .before .args .from in
-    let none : from - from ≡ 0 = omega arith in
-    let five : from + 5 - from ≡ 5 = omega arith in
-    rw (none, five) (omega arith, omega arith, omega arith, refl, refl)
+    let a = c .before .args in (
+      omega arith,
+      omega arith,
+      one-le-pow _ 10 (omega arith),
+      ap (λ (k : ℕ). value (lead k (drop (a .from) (a .line .now)))) (omega arith),
+      ap (λ (k : ℕ). a .from + length (lead k (drop (a .from) (a .line .now)))) (omega arith),
+    )
 
 -- the byte is a digit, and the number before it has four at most
 known : (c : tie.Then1 Inv-loop μ-loop)
