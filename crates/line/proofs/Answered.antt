@@ -1,19 +1,19 @@
 -- What the printing program refuses: its masks bar nothing and its buffer has room, so that the report alone decides.
-use mathlib.Core.Path.{_≡_, refl, sym, ap, _∙_, subst}
+use mathlib.Core.Path.{_≡_, refl, sym, ap, _∙_}
 use mathlib.Core.Logic.{_≢_}
-use mathlib.Core.Bool.{Bool, true, false, not, cond, _||_}
+use mathlib.Core.Bool.{Bool, true, false, not, _||_}
 use mathlib.Core.List.{List, [], _∷_, _++_}
-use Prim.Native.Nat.{ℕ, _-_, _*_, _/_, _%_, _<_}
+use Prim.Native.Nat.{ℕ, zero, suc, _-_, _*_, _/_, _%_, _<_}
 use native.Mathlib.Nat.{mul-le-mul}
 use native.Mathlib.Omega.{arith}
-use lib.Dec.{T, T-not, eqb, eqb-refl, eqb→eq}
+use lib.Dec.{T, eqb, eqb-refl, eqb→eq}
 use lib.ListN.{length, replicate, length-replicate, getD-replicate}
 use borrow.Author.Tests.{not-false, eq-eqb, le-ltb}
 use Rattle.ground.specs.Lists.{some, each, every, among}
 use Rattle.ground.specs.First.{first, numbered}
 use Rattle.ground.proofs.Booleans.{cond-both}
 use Rattle.ground.proofs.Tests.{and-left, and-right, or-left, or-right, every-at}
-use Rattle.ground.proofs.First.{first-none, none-zero, none-within}
+use Rattle.ground.proofs.First.{first-none, first-stop, first-insert, none-zero, none-within}
 use Rattle.settings.specs.Settings.{isSetting, ports, maskBytes}
 use Rattle.settings.specs.Ranges.{isRank}
 use Rattle.settings.proofs.Known.{ports-few}
@@ -32,15 +32,11 @@ use Rattle.line.specs.Prints.{fullMask, askedOf, refusalOf}
 -- a number whose test cannot hold where none before it does may be left out
 first-without : (test : ℕ → Bool) (xs ys : List ℕ) (k : ℕ) → (first test xs ≡ 0 → test k ≡ false)
     → first test (xs ++ k ∷ ys) ≡ first test (xs ++ ys)
-unfolding first
-first-without test [] ys k h = rw (h refl)
-first-without test (x ∷ xs) ys k h = by-test (test x) h (first-without test xs ys k)
+first-without test xs ys k h = by-number (first test xs) refl
   where
-    by-test : (b : Bool) → (cond b x (first test xs) ≡ 0 → test k ≡ false)
-        → ((first test xs ≡ 0 → test k ≡ false) → first test (xs ++ k ∷ ys) ≡ first test (xs ++ ys))
-        → cond b x (first test (xs ++ k ∷ ys)) ≡ cond b x (first test (xs ++ ys))
-    by-test true h later = refl
-    by-test false h later = later h
+    by-number : (n : ℕ) → first test xs ≡ n → first test (xs ++ k ∷ ys) ≡ first test (xs ++ ys)
+    by-number zero e = first-insert test xs ys k (h e)
+    by-number (suc n) e = first-stop test xs (k ∷ ys) (λ z. omega arith) ∙ sym (first-stop test xs ys (λ z. omega arith))
 
 -- what every number of the list and 0 pass, the first does
 pub first-passes : (f test : ℕ → Bool) → T (f 0) → (ks : List ℕ) → T (each f ks) → T (f (first test ks))
@@ -134,7 +130,5 @@ module _ (r : Report) where
   unfolding each
   never-given =
       let given : ℕ → Bool = λ k. not (eqb k 3 || eqb k 5 || eqb k 10 || eqb k 11) in
-      let passes = first-passes given (rule r) tt ownOrder tt in
-      let never : (k : ℕ) → T (not (given k)) → refusalOf r ≢ k =
-      λ k u e. T-not (given k) u (subst (λ (n : ℕ). T (given n)) (sym refused-by-report ∙ e) passes) in
-      (never 3 tt, never 5 tt, never 10 tt, never 11 tt)
+      let passes = rw (← refused-by-report) at (first-passes given (rule r) tt ownOrder tt) in
+      (λ e. rw e at passes, λ e. rw e at passes, λ e. rw e at passes, λ e. rw e at passes)

@@ -2,78 +2,53 @@
 use mathlib.Core.Path.{_≡_, refl, sym, ap, _∙_}
 use mathlib.Core.Bool.{true, false, false≢true}
 use mathlib.Core.List.{List, map}
-use Prim.Native.Nat.{ℕ, _<_, _≤_}
-use native.Mathlib.Omega.{arith}
+use Prim.Native.Nat.{ℕ, _≤_}
 use lib.ListN.{length, getD, length-map}
 use Rattle.report.specs.declared.Report.{Report}
 use Rattle.line.specs.declared.Reading.{Reading}
 use Rattle.line.specs.declared.Reading.the-variants.{Read, Unreadable}
-use Rattle.text.specs.Words.{joined}
 use Rattle.line.specs.Form.{value, valuesOf, Form, Reads}
-use Rattle.line.proofs.Scanned.{words, good}
-use Rattle.line.proofs.Joined.{good-decimals, good-joined, joined-good, joined-words}
+use Rattle.line.proofs.Scanned.{words, good, good-found, joined-found}
 
--- ---- a line that has the form
+-- ---- a line that has the form is good, and its words are those that are found
 
-module _ {line : List ℕ} {r : Report} (f : Form line r) where
-  -- it has eight words
-  eight : length (f .words) ≡ 8
-  eight = sym (length-map (f .words) value) ∙ ap length (f .values)
-
-  form-good : good 8 line ≡ true
-  form-good =
-      ap (good 8) (f .joins)
-      ∙ ap (λ (n : ℕ). good n (joined (f .words))) (sym eight)
-      ∙ joined-good (f .words) (f .decimals)
-
-  -- they are those that are found
-  form-words : words 8 line ≡ f .words
-  form-words =
-      ap (words 8) (f .joins)
-      ∙ ap (λ (n : ℕ). words n (joined (f .words))) (sym eight)
-      ∙ joined-words (f .words) (f .decimals)
-
-  form-values : map value (words 8 line) ≡ valuesOf r
-  form-values = ap (map value) form-words ∙ f .values
+form-found : {line : List ℕ} {r : Report} → Form line r
+    → (good 8 line ≡ true) × (map value (words 8 line) ≡ valuesOf r)
+form-found f =
+    let eight : length (f .words) ≡ 8 = sym (length-map (f .words) value) ∙ ap length (f .values) in
+    let found = rw (eight, ← f .joins) at (joined-found (f .words) (f .decimals)) in
+    (found .0, ap (map value) (found .1) ∙ f .values)
 
 -- ---- a line has the form if it is good
 
 pub reads-report : (line : List ℕ) {r : Report} → length line ≤ 256 → good 8 line ≡ true
     → map value (words 8 line) ≡ valuesOf r → Reads line (Read r)
-reads-report line h g e = record {
-  words = words 8 line;
-  decimals = good-decimals 8 line g;
-  values = e;
-  joins = good-joined 8 line g;
-  few = h;
-}
+reads-report line h g e =
+    let found = good-found 8 line g in
+    record { words = words 8 line; decimals = found .0; values = e; joins = found .1; few = h }
 
--- and has none if it is not, or is too long
+-- and has none if it is not
 pub reads-nothing : (line : List ℕ) → good 8 line ≡ false → Reads line Unreadable
-reads-nothing line g r f = false≢true (sym g ∙ form-good f)
-
-pub too-long : (line : List ℕ) → 256 < length line → Reads line Unreadable
-too-long line h r f = omega (arith, f .few)
+reads-nothing line g r f = false≢true (sym g ∙ form-found f .0)
 
 -- ---- a line has one reading
 
-values-one : {r r′ : Report} → valuesOf r ≡ valuesOf r′ → r ≡ r′
-values-one {r} {r′} e =
-    let at : (k : ℕ) → getD (valuesOf r) k 0 ≡ getD (valuesOf r′) k 0 = λ k. ap (λ (xs : List ℕ). getD xs k 0) e in
-    λ i. record {
-      n1 = at 0 i;
-      n2 = at 1 i;
-      mode = at 2 i;
-      v = at 3 i;
-      i11 = at 4 i;
-      i12 = at 5 i;
-      i13 = at 6 i;
-      i2 = at 7 i;
-    }
+-- the report of eight numbers
+abbrev reportOf : List ℕ → Report
+reportOf xs = record {
+  n1 = getD xs 0 0;
+  n2 = getD xs 1 0;
+  mode = getD xs 2 0;
+  v = getD xs 3 0;
+  i11 = getD xs 4 0;
+  i12 = getD xs 5 0;
+  i13 = getD xs 6 0;
+  i2 = getD xs 7 0;
+}
 
 -- a line stands for one report
 pub form-one : {line : List ℕ} {r r′ : Report} → Form line r → Form line r′ → r ≡ r′
-form-one f g = values-one (sym (form-values f) ∙ form-values g)
+form-one f g = ap reportOf (sym (form-found f .1) ∙ form-found g .1)
 
 -- two readings of a line are one
 pub reads-one : (line : List ℕ) (a a′ : Reading) → Reads line a → Reads line a′ → a ≡ a′

@@ -1,10 +1,8 @@
 -- Laws that the proofs share, then theorems.
 pub mod Leading
 pub mod Scanned
-pub mod Joined
 pub mod Forms
 pub mod Answered
-pub mod Mask
 pub mod Texts
 pub mod Example
 pub mod Readback

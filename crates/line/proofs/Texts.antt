@@ -1,12 +1,12 @@
--- The record for a report and its text: what a call of `phases` with all mask bits ones gives and leaves, and how long the
--- text is.
+-- The mask, the record and the text for a report: what a call of `phases` with all mask bits ones gives and leaves.
 use mathlib.Core.Path.{_≡_, refl, sym, ap, _∙_}
 use mathlib.Core.Bool.{true}
 use mathlib.Core.List.{List}
 use Prim.Native.Nat.{ℕ, zero, suc, _*_, _<_, _≤_}
 use native.Mathlib.Omega.{arith}
+use borrow.Author.Needs.{needs}
 use lib.Dec.{eqb, leb, leb→le}
-use lib.ListN.{length}
+use lib.ListN.{length, take, replicate}
 use borrow.Author.Tests.{ltb-false}
 use Rattle.ground.specs.Cases.{_⇒_∣_}
 use Rattle.ground.specs.Lists.{each, among}
@@ -15,9 +15,11 @@ use Rattle.ground.proofs.First.{first-none}
 use Rattle.plan.specs.declared.Record.{Record}
 use Rattle.plan.specs.Plan.{matrix}
 use Rattle.plan.specs.Sound.{Sound}
-use Rattle.plan.specs.Answer.{planned, recordOf, bufferOf, test, refusal, Called}
+use Rattle.plan.specs.Answer.{refused, planned, recordOf, bufferOf, test, refusal, Called}
 use Rattle.plan.proofs.Calls.{rules-passed}
 use Rattle.plan.proofs.Matrix.{length-matrix}
+use Rattle.settings.specs.Settings.{isSetting, maskBytes}
+use Rattle.settings.proofs.Known.{mask-few}
 use Rattle.report.specs.declared.Report.{Report}
 use Rattle.single.specs.Plan.{plan}
 use Rattle.single.specs.Single.{order, single}
@@ -31,11 +33,28 @@ use Rattle.line.specs.declared.Answer.{Answer}
 use Rattle.line.specs.declared.Answer.the-variants.{NoRoom}
 use Rattle.line.specs.declared.Printed.{Printed}
 use Rattle.line.specs.Prints.{fullMask, askedOf, refusalOf, recordFor, answerBy, answerOf, textOf, Outcome, Prints}
+use Rattle.line.proofs.Leading.{by-test}
 use Rattle.line.proofs.Answered.{first-passes}
 
-module _ (r : Report) where
-  -- ---- the record
+-- ---- the beam mask whose bits are all ones, as a part of 32 bytes
 
+take-replicate : {A : Type 0} (n m : ℕ) (a : A) → n ≤ m → take n (replicate m a) ≡ replicate n a
+take-replicate zero m a h = refl
+take-replicate (suc n) zero a h = absurd (omega arith)
+take-replicate (suc n) (suc m) a h = rw (take-replicate n m a (omega arith))
+
+module _ (n1 n2 : ℕ) {n : ℕ} (e : n ≡ (isSetting n1 n2 ⇒ maskBytes n1 n2 ∣ 0)) where
+  pub bytes-few : n ≤ 32
+  bytes-few = rw e (by-test (isSetting n1 n2) (λ s. rw s (mask-few n1 n2 s)) (λ s. rw s (omega arith)))
+
+  -- so many of 32 bytes are the mask
+  pub bytes-full : take n (replicate 32 255) ≡ fullMask n1 n2
+  unfolding fullMask
+  bytes-full = take-replicate n 32 255 bytes-few ∙ rw e
+
+-- ---- the record
+
+module _ (r : Report) where
   refusal-few : refusalOf r ≤ 11
   unfolding each refusal refusalOf
   refusal-few = leb→le _ 11 (first-passes (λ k. leb k 11) (test single (askedOf r)) tt order tt)
@@ -57,76 +76,56 @@ module _ (r : Report) where
   record-limits = by-number (refusalOf r) refl
     where
       by-number : (k : ℕ) → refusalOf r ≡ k → Limits (recordOf (planned (plan r)) k) 256
-      by-number zero e = record {
-        refusal = omega arith;
-        ports = sound e .few;
-        layers = sound e .eight;
-        scale = omega (arith, fits e);
-        entries = fits e;
-      }
-      by-number (suc k) e = record {
-        refusal = omega (arith, refusal-few);
-        ports = omega arith;
-        layers = omega arith;
-        scale = omega arith;
-        entries = omega arith;
-      }
-
-  -- ---- a call
-
-  module _ {given : Record} {lent left : List ℕ}
-      (call : Called single r (fullMask (r .n1) (r .n2)) 255 256 (matrix (plan r)) lent given left) where
-    record-given : given ≡ recordFor r
-    unfolding refusalOf
-    record-given = call .record-is
-
-    -- the text of what is given and left is that for the report
-    text-given : recordText given left ≡ textOf (Read r)
-    unfolding refusalOf
-    text-given =
-        ap (λ (a : Record). recordText a left) (call .record-is)
-        ∙ ap (recordText (recordFor r)) (call .buffer-is)
-        ∙ by-number (refusalOf r) refl
-      where
-        by-number : (k : ℕ) → refusalOf r ≡ k
-            → recordText (recordOf (planned (plan r)) k) (bufferOf k (matrix (plan r)) lent)
-            ≡ recordText (recordOf (planned (plan r)) k) (matrix (plan r))
-        by-number zero e = text-before (planned (plan r)) (matrix (plan r)) _ refl (length-matrix (plan r) (sound e))
-        by-number (suc k) e =
-            text-refused (recordOf (planned (plan r)) (suc k)) lent (λ z. omega arith)
-            ∙ sym (text-refused (recordOf (planned (plan r)) (suc k)) (matrix (plan r)) (λ z. omega arith))
-
-    -- and it may be written
-    writes-given : {n : ℕ} {buffer out : List ℕ} → length left ≡ 256
-        → Writes (printable given (length left)) (recordText given left) buffer n out
-        → Writes true (textOf (Read r)) buffer n out
-    writes-given {n} {buffer} {out} size w =
-        let limits = within-limits (recordFor r) 256 record-limits in
-        let may : printable given (length left) ≡ true = rw (size, record-given) limits in
-        rw (may, text-given) at w
-
--- ---- what is given and left
+      by-number zero e = let room = fits e in let good = sound e in search needs
+      by-number (suc k) e = let few = refusal-few in search needs
 
 pub text-some : (a : Reading) → 0 < length (textOf a)
 text-some (Read r) = record-some (recordFor r) (matrix (plan r))
 text-some Unreadable = unreadable-some
 
-pub outcome-of : (a : Reading) {n : ℕ} {lent left : List ℕ} {given : Printed} → Writes true (textOf a) lent n left
-    → given ≡ record { answer = eqb n 0 ⇒ NoRoom ∣ answerOf a; length = n } → Outcome a lent given left
-outcome-of a {n} {lent} w e = record {
-  answers = ap (λ (p : Printed). p .answer) e ∙ by-length (textOf a) lent NoRoom (answerOf a) (text-some a) w;
-  writes = rw e w;
-}
+-- ---- what is given and left
 
--- the outcome for a report
-pub outcome-read : (r : Report) {given : Record} {phases left : List ℕ}
-    → Called single r (fullMask (r .n1) (r .n2)) 255 256 (matrix (plan r)) phases given left → length left ≡ 256
-    → {n : ℕ} {lent out : List ℕ} {answer : Answer} {p : Printed}
-    → Writes (printable given (length left)) (recordText given left) lent n out → answer ≡ answerBy given
-    → p ≡ record { answer = eqb n 0 ⇒ NoRoom ∣ answer; length = n } → Outcome (Read r) lent p out
-outcome-read r call size {n} w x e =
-    outcome-of (Read r) (writes-given r call size w)
-    (e ∙ ap (λ (a : Answer). record { answer = eqb n 0 ⇒ NoRoom ∣ a; length = n }) (x ∙ ap answerBy (record-given r call)))
+pub outcome-of : (a : Reading) {n : ℕ} {lent left : List ℕ} {answer : Answer} {given : Printed}
+    → Writes true (textOf a) lent n left → answer ≡ answerOf a
+    → given ≡ record { answer = eqb n 0 ⇒ NoRoom ∣ answer; length = n } → Outcome a lent given left
+outcome-of a {n} {lent} w x e =
+    let same = e ∙ ap (λ (y : Answer). record { answer = eqb n 0 ⇒ NoRoom ∣ y; length = n }) x in
+    record {
+      answers = ap (λ (p : Printed). p .answer) same ∙ by-length (textOf a) lent NoRoom (answerOf a) (text-some a) w;
+      writes = rw e w;
+    }
+
+-- a report, by a call with all mask bits ones
+module _ (r : Report) {given : Record} {phases left : List ℕ}
+    (call : Called single r (fullMask (r .n1) (r .n2)) 255 256 (matrix (plan r)) phases given left) where
+  record-given : given ≡ recordFor r
+  unfolding refusalOf
+  record-given = call .record-is
+
+  -- the text of what is given and left is that for the report
+  text-given : recordText given left ≡ textOf (Read r)
+  unfolding refusalOf
+  text-given =
+      ap (λ (a : Record). recordText a left) (call .record-is)
+      ∙ ap (recordText (recordFor r)) (call .buffer-is)
+      ∙ by-number (refusalOf r) refl
+    where
+      by-number : (k : ℕ) → refusalOf r ≡ k
+          → recordText (recordOf (planned (plan r)) k) (bufferOf k (matrix (plan r)) phases)
+          ≡ recordText (recordOf (planned (plan r)) k) (matrix (plan r))
+      by-number zero e = text-before (planned (plan r)) (matrix (plan r)) _ refl (length-matrix (plan r) (sound r e))
+      by-number (suc k) e =
+          text-refused (refused (suc k)) phases (λ z. omega arith)
+          ∙ sym (text-refused (refused (suc k)) (matrix (plan r)) (λ z. omega arith))
+
+  -- and it may be written
+  pub outcome-read : length left ≡ 256 → {n : ℕ} {lent out : List ℕ} {answer : Answer} {p : Printed}
+      → Writes (printable given (length left)) (recordText given left) lent n out → answer ≡ answerBy given
+      → p ≡ record { answer = eqb n 0 ⇒ NoRoom ∣ answer; length = n } → Outcome (Read r) lent p out
+  outcome-read size w x e =
+      let limits = within-limits (recordFor r) 256 (record-limits r) in
+      let may : printable given (length left) ≡ true = rw (size, record-given) limits in
+      outcome-of (Read r) (rw (may, text-given) at w) (x ∙ ap answerBy record-given) e
 
 -- what is printed lies in the lent buffer
 pub printed-within : {line lent left : List ℕ} {given : Printed} → Prints line lent given left

@@ -1,7 +1,9 @@
 // The decimals of a line.
 ghost use mathlib.Core.Path.{_≡_};
-ghost use Prim.Native.Nat.{_≤_};
-ghost use lib.ListN.{length, drop};
+ghost use mathlib.Core.Bool.{_&&_};
+ghost use Prim.Native.Nat.{_+_, _≤_};
+ghost use lib.Dec.{ltb};
+ghost use lib.ListN.{getD, drop};
 ghost use Rattle.line.specs.Form.{isDigit};
 ghost use Rattle.line.specs.Scan.{Leads, isEnded};
 
@@ -17,9 +19,21 @@ const MOST_DIGITS: u32 = 5;
 // The largest number of a line.
 const LARGEST: u32 = 65535;
 
-fn is_digit(b: u8) -> bool
-    ensures { λ t. ⌜ t ≡ isDigit b ⌝ }
+// The byte at a place of a line; 0 past its end.
+fn byte_at(line: &[u8], at: usize) -> u8
+    ensures { λ b. ⌜ b ≡ getD (now (line .entry)) at 0 ⌝ }
 {
+    if at < line.len() { line[at] } else { 0 }
+}
+
+// Whether a digit stands at a place before the last.
+fn is_digit(line: &[u8], at: usize, last: usize) -> bool
+    ensures { λ t. ⌜ t ≡ (ltb at last && isDigit (getD (now (line .entry)) at 0)) ⌝ }
+{
+    if at >= last {
+        return false;
+    }
+    let b = byte_at(line, at);
     if b < b'0' {
         return false;
     }
@@ -28,29 +42,15 @@ fn is_digit(b: u8) -> bool
 
 // The digits from a place on, at most five of them.
 pub fn leading(line: &[u8], from: usize) -> Number
-    requires { ⌜ from ≤ length (now line) ⌝ }
-    ensures { λ n. ⌜ Leads (drop from (now (line .entry))) from n ⌝ }
+    requires { ⌜ from ≤ 256 ⌝ }
+    ensures { λ n. ⌜ Leads (drop from (now (line .entry))) from n × (n .end ≤ from + 5) ⌝ }
 {
+    let last = from + MOST_DIGITS as usize;
     let mut value = 0;
     let mut end = from;
-    let mut left = MOST_DIGITS;
-    while left > 0 {
-        if end == line.len() {
-            return Number {
-                value: value,
-                end: end,
-            };
-        }
-        let b = line[end];
-        if !is_digit(b) {
-            return Number {
-                value: value,
-                end: end,
-            };
-        }
-        value = 10 * value + (b - b'0') as u32;
+    while is_digit(line, end, last) {
+        value = 10 * value + (byte_at(line, end) - b'0') as u32;
         end += 1;
-        left -= 1;
     }
     Number {
         value: value,
@@ -61,7 +61,7 @@ pub fn leading(line: &[u8], from: usize) -> Number
 // Whether a number that was read from a place on is a decimal, and is followed by what ends a word after which so many
 // are left.
 pub fn ends(line: &[u8], from: usize, n: Number, left: usize) -> bool
-    requires { ⌜ Leads (drop from (now line)) from n × (from ≤ length (now line)) ⌝ }
+    requires { ⌜ Leads (drop from (now line)) from n ⌝ }
     ensures { λ t. ⌜ t ≡ isEnded (drop from (now (line .entry))) left ⌝ }
 {
     let end = n.end;
@@ -71,8 +71,5 @@ pub fn ends(line: &[u8], from: usize, n: Number, left: usize) -> bool
     if n.value > LARGEST {
         return false;
     }
-    if end == line.len() {
-        return false;
-    }
-    line[end] == text::ending(left)
+    byte_at(line, end) == text::ending(left)
 }

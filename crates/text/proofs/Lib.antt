@@ -2,7 +2,6 @@
 pub mod Adds
 pub mod Writes
 pub mod Words
-pub mod Digits
 pub mod Lines
 pub mod Records
 pub mod Unique

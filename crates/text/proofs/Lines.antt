@@ -1,19 +1,18 @@
 -- The lines of a matrix, and the first line of a text: how they are written, and how long they are.
-use mathlib.Core.Path.{_≡_, refl, ap, _∙_}
+use mathlib.Core.Path.{_≡_, refl, _∙_}
 use mathlib.Core.List.{List, [], _∷_, _++_, append-nil, append-assoc}
 use Prim.Native.Nat.{ℕ, zero, suc, _+_, _-_, _*_, _%_, _<_, _≤_}
 use native.Mathlib.Nat.{add-zero, add-suc, zero-mul, mul-zero}
-use native.Mathlib.Numerals.{add-one}
 use native.Mathlib.Omega.{arith}
 use lib.Arith.{digits-mod}
-use lib.ListN.{length, getD, length-append, length-take}
+use lib.ListN.{length, take, drop, getD, length-append, length-take, length-drop, length-map}
+use lib.Seq.{drop-cons}
 use Rattle.plan.specs.declared.Record.{Record}
 use Rattle.plan.specs.Plan.{layer}
 use Rattle.plan.proofs.Layers.{layer-before}
-use Rattle.text.specs.Words.{ending, joined, ended, headed}
+use Rattle.text.specs.Words.{ending, joined, written, ended, lineOf, headed}
 use Rattle.text.specs.Text.{linesOf, okText, refusedText, unreadableText}
-use Rattle.text.proofs.Words.{written-few, written-one-few, written-two-few}
-use Rattle.text.proofs.Words.{lineBegun, line-nothing, part-next, part-all, line-few}
+use Rattle.text.proofs.Words.{written-few, written-one-few, written-two-few, line-few}
 
 -- ---- lines for layers
 
@@ -23,41 +22,25 @@ linesBegun p zero xs = []
 linesBegun p (suc i) xs = linesBegun p i xs ++ ended (getD xs i 0) (p - 1 - i % p)
 
 module _ (p : ℕ) (xs : List ℕ) where
-  pub lines-nothing : linesBegun p 0 xs ≡ []
-  unfolding linesBegun
-  lines-nothing = refl
-
-  pub lines-next : (i : ℕ)
-      → linesBegun p (i + 1) xs ≡ linesBegun p i xs ++ ended (getD xs i 0) (p - 1 - i % p)
-  unfolding linesBegun
-  lines-next i = rw add-one
-
-  -- three digits and what follows them for each
-  pub lines-begun-few : (i : ℕ) → length (linesBegun p i xs) ≤ 4 * i
-  unfolding linesBegun
-  lines-begun-few zero = omega arith
-  lines-begun-few (suc i) =
-      simp length-append (omega (arith, lines-begun-few i, written-few (getD xs i 0)))
-
-  -- after j lines, the line of a layer
-  in-line : (j i : ℕ) → suc j * p ≤ length xs → linesBegun p (j * p) xs ≡ linesOf j p xs → i ≤ p
-      → linesBegun p (j * p + i) xs ≡ linesOf j p xs ++ lineBegun i (layer p j xs)
-  unfolding linesBegun
-  in-line j zero h e k = rw (add-zero, line-nothing, append-nil) e
-  in-line j (suc i) h e k =
+  -- the last q numbers of line j
+  line-rest : (j i q : ℕ) → suc j * p ≤ length xs → i + q ≡ p
+      → linesBegun p (j * p + p) xs ≡ linesBegun p (j * p + i) xs ++ lineOf (take q (drop (j * p + i) xs))
+  unfolding linesBegun lineOf joined
+  line-rest j i zero h e = let all : i ≡ p = omega arith in rw (all, append-nil)
+  line-rest j i (suc q) h e =
       let place : (j * p + i) % p ≡ i = digits-mod j (omega arith) in
-      let left : p - 1 - i ≡ p - (i + 1) = omega arith in
-      let next = part-next xs (j * p) p i (omega arith) (omega arith) in
-      rw (add-suc, in-line j i h e (omega arith), place, left, ← add-one i, next) (simp append-assoc)
+      let left : p - 1 - i ≡ q = omega arith in
+      let size = length-map (take q (drop (suc (j * p + i)) xs)) written in
+      let long : length (take q (drop (suc (j * p + i)) xs)) ≡ q = simp (length-take, length-drop) (omega arith) in
+      line-rest j (suc i) q h (omega arith)
+      ∙ rw (add-suc, place, left, drop-cons xs (j * p + i) 0 (omega arith), size, long) (simp append-assoc)
 
   pub lines-all : (j : ℕ) → j * p ≤ length xs → linesBegun p (j * p) xs ≡ linesOf j p xs
-  unfolding linesOf
-  lines-all zero h = rw zero-mul lines-nothing
+  unfolding linesBegun linesOf
+  lines-all zero h = rw zero-mul
   lines-all (suc j) h =
       let line : suc j * p ≡ j * p + p = omega arith in
-      rw line
-      (in-line j p h (lines-all j (omega arith)) (omega arith)
-      ∙ ap (λ (l : List ℕ). linesOf j p xs ++ l) (part-all xs (j * p) p p (omega arith) refl))
+      rw (line, ← lines-all j (omega arith)) (rw add-zero at (line-rest j 0 p h (omega arith)))
 
   -- which have p numbers at most
   pub lines-few : (n : ℕ) → length (linesOf n p xs) ≤ 4 * (n * p)

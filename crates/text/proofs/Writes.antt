@@ -30,11 +30,11 @@ module _ {done : Bool} {left : List ℕ} (from text lent : List ℕ) (n : ℕ) (
   }
 
 -- the text was composed at the front of another list
-module _ {array composed text lent left : List ℕ} {n : ℕ} {done : Bool} (a : Adds text 0 array n composed)
-    (c : Copied composed n lent done left) where
-  pub writes-composed : {k : ℕ} → k ≡ (done ⇒ n ∣ 0) → Writes true text lent k left
-  writes-composed =
-      writes-copy composed text lent n (front a) (omega (arith, a .long)) (omega (arith, a .within, adds-length a)) c
+pub writes-composed : {may done : Bool} {array composed text lent left : List ℕ} {n k : ℕ} → may ≡ true
+    → Adds text 0 array n composed → Copied composed n lent done left → k ≡ (done ⇒ n ∣ 0) → Writes may text lent k left
+writes-composed {lent = lent} m a c q =
+    rw m
+    (writes-copy _ _ lent _ (front a) (omega (arith, a .long)) (omega (arith, a .within, adds-length a)) c q)
 
 -- ---- what the number of bytes says
 

@@ -18,7 +18,7 @@ fn digit(n: u32) -> u8
 // A number in decimals, of three digits at most.
 fn decimal(n: u32, at: usize, out: &mut [u8]) -> usize
     requires { ⌜ at + 3 ≤ length (now out) ⌝ }
-    ensures { λ k. ⌜ Adds (written n) at (now (out .entry)) k (now (out .exit)) ⌝ }
+    ensures { λ k. ⌜ Adds (written n) at (now (out .entry)) k (now (out .exit)) × (k ≤ at + 3) ⌝ }
 {
     let units = digit(n);
     if n < 10 {
@@ -40,7 +40,7 @@ fn decimal(n: u32, at: usize, out: &mut [u8]) -> usize
 // A number, and what follows it where so many words are left.
 fn ended(n: u32, left: usize, at: usize, out: &mut [u8]) -> usize
     requires { ⌜ at + 4 ≤ length (now out) ⌝ }
-    ensures { λ k. ⌜ Adds (ended n left) at (now (out .entry)) k (now (out .exit)) ⌝ }
+    ensures { λ k. ⌜ Adds (ended n left) at (now (out .entry)) k (now (out .exit)) × (k ≤ at + 4) ⌝ }
 {
     let k = decimal(n, at, out);
     out[k] = crate::ending(left);
@@ -67,7 +67,9 @@ pub fn lines(phases: &[Part], p: usize, v: usize, at: usize, out: &mut [u8]) -> 
 // A word at the front, and a number after it.
 pub fn opened(word: &[u8], n: u32, left: usize, out: &mut [u8]) -> usize
     requires { ⌜ length (now word) + 4 ≤ length (now out) ⌝ }
-    ensures { λ k. ⌜ Adds (now (word .entry) ++ ended n left) 0 (now (out .entry)) k (now (out .exit)) ⌝ }
+    ensures { λ k.
+        ⌜ Adds (now (word .entry) ++ ended n left) 0 (now (out .entry)) k (now (out .exit))
+        × (k ≤ length (now (word .entry)) + 4) ⌝ }
 {
     let w = word.len();
     ground::copy(word, w, out);

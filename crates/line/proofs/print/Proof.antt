@@ -1,12 +1,11 @@
 -- `print` meets its contract: each of its cases is that of the reading.
+use mathlib.Core.Path.{refl}
+use native.Mathlib.Omega.{arith}
 use borrow.Author.Needs.{needs}
 use Rattle.line.specs.declared.Reading.the-variants.{Unreadable}
 use Rattle.line.proofs.Texts.{outcome-of}
 use Rattle.line.proofs.print.Statement.{statement}
 use Rattle.line.proofs.print.Tie as tie
-
-answer-to-requires : tie.Need-answer-to-requires
-answer-to-requires c κs = tt
 
 returns : tie.Need-returns
 returns c =
@@ -18,12 +17,6 @@ returns c =
       outcome = rw (r .r .given .1) (a .answer-to .ensures);
     }
 
-unreadable-requires : tie.Need-unreadable-requires
-unreadable-requires c κs = tt
-
-given-requires : tie.Need-given-requires
-given-requires c κs = tt
-
 returns-2 : tie.Need-returns-2
 returns-2 c =
     let u = c .before .before .before in
@@ -31,7 +24,7 @@ returns-2 c =
     record {
       reading = t .before .before .read .result;
       reads = t .before .before .read .ensures;
-      outcome = rw (t .enum-told .given .1) (outcome-of Unreadable (u .unreadable .ensures) (c .given .ensures));
+      outcome = rw (t .enum-told .given .1) (outcome-of Unreadable (u .unreadable .ensures) refl (c .given .ensures));
     }
 
 pub print-spec : {M : Type 1} → statement M
@@ -40,11 +33,11 @@ print-spec =
     (tie.spec
     (λ c κs. tt)
     (λ c. search needs)
-    answer-to-requires
-    (λ c. c .before .before .answer-to .kept .1 .0)
+    (λ c κs. tt)
+    (λ c. omega arith)
     returns
     (λ c. search needs)
-    unreadable-requires
-    given-requires
-    (λ c. c .before .before .before .unreadable .kept .0)
+    (λ c κs. tt)
+    (λ c κs. tt)
+    (λ c. omega arith)
     returns-2)

@@ -1,5 +1,5 @@
 -- `report_of` meets its contract: eight numbers are those at their places.
-use mathlib.Core.Path.{_≡_, sym, ap, _∙_}
+use mathlib.Core.Path.{_≡_, sym}
 use mathlib.Core.List.{List, [], _∷_}
 use Prim.Native.Nat.{ℕ, zero, suc, _+_, _≤_}
 use native.Mathlib.Omega.{arith}
@@ -19,8 +19,7 @@ unfolding places
 by-places zero at xs e =
     let past : length xs ≤ at = omega arith in
     drop-of-length-le xs past
-by-places (suc n) at xs e =
-    drop-cons xs at 0 (omega arith) ∙ ap (λ (ys : List ℕ). getD xs at 0 ∷ ys) (by-places n (suc at) xs (omega arith))
+by-places (suc n) at xs e = rw (drop-cons xs at 0 (omega arith), by-places n (suc at) xs (omega arith))
 
 returns : tie.Need-returns
 unfolding places

@@ -11,12 +11,6 @@ use Rattle.text.proofs.Lines.{unreadable-bytes}
 use Rattle.text.proofs.unreadable.Statement.{statement}
 use Rattle.text.proofs.unreadable.Tie as tie
 
-slice-aggregate-copy : tie.Need-slice-aggregate-copy
-slice-aggregate-copy c = refl
-
-copy-requires : tie.Need-copy-requires
-copy-requires c κs = tt
-
 -- what is given where the copy is made, and where it is not
 outcome : {k : ℕ} (c : tie.After-copy) → k ≡ (c .copy .result ⇒ 11 ∣ 0)
     → Writes true unreadableText (c .before .before .before .before .args .out .now) k (c .copy .last .1 .1 .0)
@@ -32,4 +26,4 @@ returns-2 c = outcome (c .before .before .before) (rw (c .if1 .left))
 pub unreadable-spec : {M : Type 1} → statement M
 unreadable-spec =
     tie.close
-    (tie.spec slice-aggregate-copy copy-requires (λ c. c .before .before .before .copy .kept .1 .1 .0) returns (λ c. c .before .before .before .copy .kept .1 .1 .0) returns-2)
+    (tie.spec (λ c. refl) (λ c κs. tt) (λ c. omega arith) returns (λ c. omega arith) returns-2)

@@ -1,61 +1,67 @@
 -- `write::decimal` meets its contract: in each of its cases it stores the digits one after the other.
+use mathlib.Core.List.{[], _∷_}
+use native.Mathlib.Numerals.{add-one, add-two}
 use native.Mathlib.Omega.{arith}
 use lib.ListN.{length-set}
-use Rattle.text.proofs.Adds.{adds-length}
-use Rattle.text.proofs.Digits.{one-digit, two-digits, three-digits}
+use borrow.Author.Tests.{lt-ltb, le-ltb}
+use Rattle.text.specs.Words.{written}
+use Rattle.text.proofs.Adds.{adds-stores}
 use Rattle.text.proofs.write.decimal.Statement.{statement}
 use Rattle.text.proofs.write.decimal.Tie as tie
 
-digit-requires : tie.Need-digit-requires
-digit-requires c κs = tt
-
 returns : tie.Need-returns
+unfolding written
 returns c =
-    let d = c .before in
-    one-digit _ _ _ (d .before .before .pre) (d .digit .ensures) (c .if1 .taken)
-
-digit-requires-2 : tie.Need-digit-requires-2
-digit-requires-2 c κs = tt
+    let units = c .before .digit in
+    (adds-stores (units .result ∷ []) _ _ (rw (lt-ltb _ 10 (c .if1 .taken), units .ensures)) (omega arith), omega arith)
 
 returns-2 : tie.Need-returns-2
+unfolding written
 returns-2 c =
-    let e = c .before in
-    let d = e .before .before in
-    two-digits _ _ _ (d .before .before .pre) (d .digit .ensures) (e .digit2 .ensures) (e .before .if1 .left)
-    (c .if2 .taken)
-
-digit-requires-3 : tie.Need-digit-requires-3
-digit-requires-3 c κs = tt
+    let tens = c .before in
+    let units = tens .before .before .digit in
+    let more = le-ltb _ 10 (tens .before .if1 .left) in (
+      rw add-one
+          (adds-stores (tens .digit2 .result ∷ units .result ∷ []) _ _
+          (rw (more, lt-ltb _ 100 (c .if2 .taken), units .ensures, tens .digit2 .ensures)) (omega arith)),
+      omega arith,
+    )
 
 returns-3 : tie.Need-returns-3
+unfolding written
 returns-3 c =
-    let e = c .before .before in
-    let d = e .before .before in
-    three-digits _ _ _ (d .before .before .pre) (d .digit .ensures) (e .digit2 .ensures) (c .digit3 .ensures)
-    (c .before .if2 .left)
+    let tens = c .before .before in
+    let units = tens .before .before .digit in
+    let more = le-ltb _ 10 (tens .before .if1 .left) in
+    let most = le-ltb _ 100 (c .before .if2 .left) in (
+      rw (add-one, add-two)
+          (adds-stores (c .digit3 .result ∷ tens .digit2 .result ∷ units .result ∷ []) _ _
+          (rw (more, most, units .ensures, tens .digit2 .ensures, c .digit3 .ensures)) (omega arith)),
+      omega arith,
+    )
 
 pub decimal-spec : {M : Type 1} → statement M
 decimal-spec =
     tie.close
     (tie.spec
-    digit-requires
+    (λ c κs. tt)
     (λ c. omega arith)
     (λ c. omega arith)
-    (λ c. adds-length (returns c))
+    (λ c. simp length-set)
     returns
-    digit-requires-2
+    (λ c κs. tt)
     (λ c. omega arith)
     (λ c. omega arith)
     (λ c. rw length-set (omega arith))
     (λ c. omega arith)
-    (λ c. adds-length (returns-2 c))
+    (λ c. simp length-set)
     returns-2
-    digit-requires-3
+    (λ c κs. tt)
     (λ c. omega arith)
     (λ c. omega arith)
     (λ c. rw length-set (omega arith))
     (λ c. omega arith)
     (λ c. simp length-set (omega arith))
     (λ c. omega arith)
-    (λ c. adds-length (returns-3 c))
+    (λ c. simp length-set)
     returns-3)

@@ -1,42 +1,38 @@
 -- `write::lines` meets its contract: each turn has one phase more written after those that stand, and what follows it.
 use mathlib.Core.Path.{_≡_}
-use Prim.Native.Nat.{_-_, _%_, _*_, _<_, _≤_}
+use Prim.Native.Nat.{_+_, _-_, _*_, _≤_}
 use native.Mathlib.Nat.{mod-lt}
+use native.Mathlib.Numerals.{add-one}
 use native.Mathlib.Omega.{arith}
 use Rattle.text.specs.Text.{Adds}
 use Rattle.text.proofs.Adds.{adds-nothing, adds-then, adds-length}
-use Rattle.text.proofs.Lines.{linesBegun, lines-nothing, lines-next, lines-begun-few, lines-all, width-some}
+use Rattle.text.proofs.Lines.{linesBegun, lines-all, width-some}
 use Rattle.text.proofs.write.lines.Statement.{statement}
 use Rattle.text.proofs.write.lines.Tie as tie
 
 abbrev Inv-loop : tie.InvT-loop
-Inv-loop phases p v at out₀ n k₀ i₀ out k i = (i ≤ v * p) × Adds (linesBegun p i phases) at out₀ k out
+Inv-loop phases p v at out₀ n k₀ i₀ out k i = (i ≤ v * p) × Adds (linesBegun p i phases) at out₀ k out × (k ≤ at + 4 * i)
 
 abbrev μ-loop : tie.MeasureT-loop
 μ-loop phases p v at out₀ n k₀ i₀ out k i = v * p - i
 
 loop-holds : tie.Need-loop-holds Inv-loop μ-loop
-loop-holds c = (omega arith, rw lines-nothing (adds-nothing _ _ (omega arith)))
+unfolding linesBegun
+loop-holds c = (omega arith, adds-nothing _ _ (omega arith), omega arith)
 
--- a line has a phase, and the place of a phase is within it
+-- a line has a phase
 some : (c : tie.In-loop Inv-loop μ-loop) → 1 ≤ c .before .before .before .before .args .p
 some c = width-some _ _ _ (c .loop-test .taken)
 
-place : (c : tie.In-loop Inv-loop μ-loop)
-    → let p = c .before .before .before .before .args .p in c .before .loop .i % p < p
-place c = mod-lt _ (some c)
-
 ended-requires : tie.Need-ended-requires Inv-loop μ-loop
-ended-requires c κs =
-    let l = c .before .before .before .loop in
-    let a = c .before .before .before .before .before .before .args in
-    omega (arith, adds-length (l .inv .1), l .inv .1 .long, lines-begun-few (a .p) (a .phases .now) (l .i))
+ended-requires c κs = omega (arith, adds-length (c .before .before .before .loop .inv .1))
 
 loop-again : tie.Need-loop-again Inv-loop μ-loop
+unfolding linesBegun
 loop-again c =
     let e = c .before .before in
     let l = e .before .before .before .before .loop in
-    (omega arith, rw lines-next (adds-then (l .inv .1) (e .ended .ensures)))
+    (omega arith, rw add-one (adds-then (l .inv .1) (e .ended .ensures .0)), omega arith)
 
 returns : tie.Need-returns Inv-loop μ-loop
 returns c =
@@ -57,7 +53,7 @@ lines-spec =
     (λ c. omega (arith, c .shared-slice-known2 .given (c .before .before .loop .i)))
     (λ c. some (c .before))
     (λ c. some (c .before))
-    (λ c. omega (arith, place (c .before)))
+    (λ c. omega (arith, mod-lt (c .before .before .loop .i) (some (c .before))))
     ended-requires
     (λ c. omega arith)
     (λ c. omega arith)
