@@ -5,6 +5,5 @@ pub mod Sized
 pub mod Steps
 pub mod Offsets
 pub mod Reached
-pub mod Given
 pub mod Unique
 pub mod Examples

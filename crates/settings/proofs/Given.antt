@@ -1,27 +1,14 @@
--- What is given by the tests of the setting, the mode and the rank, with values and without, and what a 0 says.
+-- What a 0 says: without ports the pair is no setting, and without values of i2 there are no ranges.
 use mathlib.Core.Path.{_≡_, refl, sym, _∙_}
 use mathlib.Core.Bool.{Bool, true, false, cond, _&&_}
 use Prim.Native.Nat.{ℕ, _≤_}
 use native.Mathlib.Omega.{arith}
 use Rattle.ground.proofs.Booleans.{is-false, cond-each, and-nothing}
-use Rattle.settings.specs.declared.Ranges.{Ranges}
 use Rattle.settings.specs.declared.Sizes.{Sizes}
 use Rattle.settings.specs.Settings.{isSetting, ports, sizesOf}
-use Rattle.settings.specs.Ranges.{isMode, isRank, isRanked, i11Values, i12Values, i13Values, i2Values, rangesOf}
+use Rattle.settings.specs.Ranges.{isMode, isRank, isRanked, i2Values, rangesOf}
 use Rattle.settings.proofs.Known.{known}
 use Rattle.settings.proofs.Ranked.{rank-of, i2-some}
-
-module _ (n1 n2 mode v : ℕ) {s : Sizes} (e : s ≡ sizesOf n1 n2) where
-  pub ranges-without : {a : Ranges} → a ≡ record { sizes = s; i11 = 0; i12 = 0; i13 = 0; i2 = 0 }
-      → isRanked n1 n2 mode v ≡ false → a ≡ rangesOf n1 n2 mode v
-  ranges-without p f = p ∙ rw (e, f)
-
-  pub ranges-with : {a b c d : ℕ} → isRanked n1 n2 mode v ≡ true → a ≡ i11Values n1 n2 mode v
-      → b ≡ i12Values n1 n2 mode v → c ≡ i13Values n1 n2 v → d ≡ i2Values n1 mode v
-      → record { sizes = s; i11 = a; i12 = b; i13 = c; i2 = d } ≡ rangesOf n1 n2 mode v
-  ranges-with f p q r t = rw (e, f, p, q, r, t)
-
--- ---- what a 0 says
 
 cond-zero : (b : Bool) (x : ℕ) → (b ≡ true → 1 ≤ x) → cond b x 0 ≡ 0 → b ≡ false
 cond-zero true x some e = absurd (omega (arith, some refl))

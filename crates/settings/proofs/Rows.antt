@@ -15,28 +15,7 @@ use Rattle.settings.specs.Settings.{settings, isSetting, ports, twoPorts
 use Rattle.settings.specs.Ranges.{beam, halfLength, kTwo, kThree, kRows, i13Values}
 use Rattle.settings.proofs.Known.{above-two}
 
--- how many rows there are by the number of antennas N1·N2: at v = 2, and at v = 3 and 4
-abbrev pub rowsTwo : ℕ → ℕ
-rowsTwo w = cond (eqb w 2) 2 4
-
-abbrev pub rowsThree : ℕ → ℕ
-rowsThree w = cond (eqb w 2) 1 (cond (eqb w 4) 3 4)
-
 module _ (n1 n2 : ℕ) (set : isSetting n1 n2 ≡ true) (more : n1 ≡ 1 → ⊥) where
-  pub two-rows : length (kTwo n1 n2) ≡ rowsTwo (n1 * n2)
-  unfolding kTwo settings each
-  two-rows =
-      eqb→eq (length (kTwo n1 n2)) (rowsTwo (n1 * n2))
-      (above-two n1 n2 (λ a b. eqb (length (kTwo a b)) (rowsTwo (a * b))) tt set more)
-
-  pub three-rows : n1 * n2 < 8 → length (kThree n1 n2) ≡ rowsThree (n1 * n2)
-  unfolding kThree settings each
-  three-rows few =
-      eqb→eq (length (kThree n1 n2)) (rowsThree (n1 * n2))
-      (or-else (leb 8 (n1 * n2)) (eqb (length (kThree n1 n2)) (rowsThree (n1 * n2)))
-      (λ e. let many = leb→le 8 (n1 * n2) e in omega arith)
-      (above-two n1 n2 (λ a b. leb 8 (a * b) || eqb (length (kThree a b)) (rowsThree (a * b))) tt set more))
-
   -- N2 is at most N1
   pub wide : n2 ≤ n1
   unfolding settings each
@@ -63,29 +42,12 @@ module _ (n1 n2 : ℕ) where
       (lit≤ tt, lit≤ tt)
       (cond-both Few (eqb n2 1) (lit≤ tt, lit≤ tt) (cond-both Few (eqb n1 2) (lit≤ tt, lit≤ tt) (lit≤ tt, lit≤ tt))))
 
-module _ (n1 n2 v : ℕ) where
-  pub rows-few : Few (kRows n1 n2 v)
-  unfolding kRows
-  rows-few =
-      cond-both Few (halfLength (ports n1 n2) v || twoPorts n1 || eqb v 1 || leb 5 v)
-      (lit≤ tt, lit≤ tt)
-      (cond-both Few (eqb v 2) (two-rows-few n1 n2) (three-rows-few n1 n2))
-
 -- ---- the rows of a rank
 
 module _ (n1 n2 v : ℕ) (whole : halfLength (ports n1 n2) v ≡ false) where
   pub i13-rows : i13Values n1 n2 v ≡ length (kRows n1 n2 v)
   unfolding i13Values
   i13-rows = rw whole
-
-  pub no-rows : (twoPorts n1 || eqb v 1 || leb 5 v) ≡ true → kRows n1 n2 v ≡ beam 0 0 ∷ []
-  unfolding kRows
-  no-rows e = rw (whole, e)
-
-  pub few-antennas : 3 ≤ v → v ≤ 4 → n1 * n2 < 8
-  few-antennas h k =
-      let e : leb 16 (ports n1 n2) ≡ false = unfold halfLength in rw (le-leb 3 _ h, le-leb _ 4 k) at whole in
-      omega (arith, leb-false 16 (ports n1 n2) e)
 
   module _ (more : n1 ≡ 1 → ⊥) where
     pub rows-two : v ≡ 2 → kRows n1 n2 v ≡ kTwo n1 n2
