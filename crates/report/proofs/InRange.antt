@@ -12,7 +12,7 @@ use Rattle.ground.proofs.First.{first-none}
 use Rattle.settings.specs.Settings.{ports}
 use Rattle.settings.specs.Ranges.{modeTwo, i2Values}
 use Rattle.settings.proofs.Known.{known, one-by-one}
-use Rattle.settings.proofs.Ranked.{Rank, rank-of, i11-few, i12-few, i2-few}
+use Rattle.settings.proofs.Ranked.{Rank, rank-of, i11-few, i12-few, i2-within}
 use Rattle.report.specs.declared.Report.{Report}
 use Rattle.report.specs.Rules.{rule, ownOrder, InRange}
 use Rattle.report.specs.Beams.{inModeTwo, g, q}
@@ -80,7 +80,7 @@ module _ (r : Report) (h : InRange r) where
   i12-small = omega (arith, h .i12, i12-few (r .n1) (r .n2) (r .mode) (r .v), known _ _ (h .setting) .down-few)
 
   pub i2-small : r .i2 < 16
-  i2-small = omega (arith, h .i2, i2-few (r .n1) (r .mode) (r .v))
+  i2-small = omega (arith, h .i2, i2-within (r .n1) (r .mode) (r .v))
 
   pub q-small : q r < 16
   q-small = cond-both (λ n. r .i2 / n < 16) (eqb (r .v) 1) (omega (arith, i2-small)) (omega (arith, i2-small))

@@ -2,16 +2,19 @@
 use mathlib.Core.Path.{_≡_, sym, ap, subst, _∙_}
 use mathlib.Core.Bool.{Bool, true, not, _&&_, _||_}
 use Prim.Native.Nat.{ℕ, _-_, _/_}
+use native.Mathlib.Omega.{arith}
 use lib.Dec.{T, eqb, leb, ltb, eqb→eq}
 use Rattle.ground.specs.Cases.{_⇒_∣_}
 use Rattle.ground.specs.Lists.{each, every}
-use Rattle.ground.proofs.Tests.{and-left, and-right, or-else}
+use Rattle.ground.proofs.Booleans.{and-true-left, and-true-right}
+use Rattle.ground.proofs.Tests.{and-left, and-right, or-else, every-at}
 use Rattle.settings.specs.declared.Ranges.{Ranges}
 use Rattle.settings.specs.declared.Sizes.{Sizes}
-use Rattle.settings.specs.Settings.{settings, ports, across, down, maskBytes, sizesOf}
-use Rattle.settings.specs.Ranges.{isRank, isRanked, rangesOf, modeTwo, halfLength, kTwo, kThree, kRows}
+use Rattle.settings.specs.Settings.{settings, isSetting, ports, across, down, maskBytes, sizesOf}
+use Rattle.settings.specs.Ranges.{isMode, isRank, isRanked, rangesOf, modeTwo, halfLength, kTwo, kThree, kRows}
 use Rattle.settings.specs.Ranges.{halvesI11, i11Values, halvesI12, i12Values, i13Values, i2Values}
-use Rattle.settings.proofs.Ranked.{of-rank, ranked-of, at-ranked}
+use Rattle.settings.proofs.Known.{at-setting}
+use Rattle.settings.proofs.Ranked.{mode-of, rank-of}
 
 -- the values of i11, i12, i13 and i2
 abbrev Values : Type 0
@@ -52,16 +55,25 @@ right n1 n2 mode v q =
     && eqb (q .2) (i13Values n1 n2 v) && eqb (q .3) (i2Values n1 mode v)
 
 module _ (n1 n2 mode v : ℕ) (ranked : isRanked n1 n2 mode v ≡ true) where
+  known-mode : (isSetting n1 n2 && isMode mode) ≡ true
+  known-mode = and-true-left (isSetting n1 n2 && isMode mode) (isRank (ports n1 n2) v) ranked
+
+  setting : isSetting n1 n2 ≡ true
+  setting = and-true-left (isSetting n1 n2) (isMode mode) known-mode
+
+  -- a test that passes at every setting, at modes up to 2 and at all ranks passes here
   all-right : T (right n1 n2 mode v (byRank (sizesAt n1 n2) n1 n2 mode v))
   unfolding right byRank settings each every modeTwo halfLength kTwo kThree kRows
       halvesI11 i11Values halvesI12 i12Values i13Values i2Values
   all-right =
-      let e = of-rank (ports n1 n2) v (ranked-of n1 n2 mode v ranked .rank) in
+      let f : ℕ → ℕ → ℕ → ℕ → Bool = λ a b m k. not (isRank (ports a b) k) || right a b m k (byRank (sizesAt a b) a b m k) in
+      let m = mode-of mode (and-true-right (isSetting n1 n2) (isMode mode) known-mode) in
+      let rank = and-true-right (isSetting n1 n2 && isMode mode) (isRank (ports n1 n2) v) ranked in
+      let modes = at-setting n1 n2 (λ a b. every 3 (λ m. every 9 (f a b m))) tt setting in
+      let ranks = every-at 3 (λ m. every 9 (f n1 n2 m)) modes mode (omega arith) in
+      let passed = every-at 9 (f n1 n2 mode) ranks v (omega (arith, rank-of (ports n1 n2) v rank .v-few)) in
       or-else (not (isRank (ports n1 n2) v)) (right n1 n2 mode v (byRank (sizesAt n1 n2) n1 n2 mode v))
-      (λ z. subst (λ b. T (not b)) e z)
-      (at-ranked n1 n2 mode v
-      (λ a b m k. not (isRank (ports a b) k) || right a b m k (byRank (sizesAt a b) a b m k))
-      tt ranked)
+      (λ z. subst (λ b. T (not b)) rank z) passed
 
   right-given : (q : Values) → T (right n1 n2 mode v q) → given (sizesOf n1 n2) q ≡ rangesOf n1 n2 mode v
   unfolding right
@@ -82,7 +94,7 @@ module _ (n1 n2 mode v : ℕ) (ranked : isRanked n1 n2 mode v ≡ true) where
 
   pub by-rank : {s : Sizes} → s ≡ sizesOf n1 n2 → given s (byRank s n1 n2 mode v) ≡ rangesOf n1 n2 mode v
   by-rank e =
-      let set : sizesOf n1 n2 ≡ sizesAt n1 n2 = rw (ranked-of n1 n2 mode v ranked .setting) in
+      let set : sizesOf n1 n2 ≡ sizesAt n1 n2 = rw setting in
       ap (λ (s : Sizes). given s (byRank s n1 n2 mode v)) (e ∙ set)
       ∙ ap (λ (s : Sizes). given s (byRank (sizesAt n1 n2) n1 n2 mode v)) (sym set)
       ∙ right-given (byRank (sizesAt n1 n2) n1 n2 mode v) all-right

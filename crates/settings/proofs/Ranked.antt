@@ -1,19 +1,18 @@
 -- Which settings, modes and ranks have ranges, and how large these are.
-use mathlib.Core.Path.{_≡_, sym, subst}
+use mathlib.Core.Path.{_≡_, refl, sym, subst}
 use mathlib.Core.Logic.{inl, inr}
-use mathlib.Core.Bool.{Bool, true, cond, not, _&&_, _||_}
+use mathlib.Core.Bool.{Bool, true, false, cond, _&&_, _||_}
 use Prim.Native.Nat.{ℕ, _/_, _≤_}
 use native.Mathlib.Nat.{eq-or-lt-of-le}
 use native.Mathlib.Omega.{arith}
-use lib.Dec.{T, eqb, leb, ltb, eqb→eq, leb→le, lit≤}
-use borrow.Author.Tests.{eq-eqb, ne-eqb, le-ltb, leb-true, eqb-false, ltb-false, not-true}
-use Rattle.ground.specs.Lists.{each, every}
-use Rattle.ground.proofs.Booleans.{cond-both, or-false, and-true-left, and-true-right}
-use Rattle.ground.proofs.Tests.{or-cases, every-at}
-use Rattle.settings.specs.Settings.{settings, isSetting, ports, twoPorts, across, down}
-use Rattle.settings.specs.Ranges.{isMode, isRank, isRanked, modeTwo, halfLength}
-use Rattle.settings.specs.Ranges.{halvesI11, i11Values, halvesI12, i12Values, i13Values, i2Values}
-use Rattle.settings.proofs.Known.{at-setting}
+use lib.Dec.{T, eqb, ltb, eqb→eq, lit≤}
+use borrow.Author.Tests.{eq-eqb, ne-eqb, le-ltb, eqb-false, ltb-false, not-true}
+use Rattle.ground.proofs.Booleans.{is-false, cond-both, cond-each, or-false, and-true-left, and-true-right}
+use Rattle.ground.proofs.Tests.{or-cases}
+use Rattle.settings.specs.declared.Sizes.{Sizes}
+use Rattle.settings.specs.Settings.{isSetting, ports, across, down, sizesOf}
+use Rattle.settings.specs.Ranges.{isMode, isRank, isRanked, modeTwo}
+use Rattle.settings.specs.Ranges.{halvesI11, i11Values, halvesI12, i12Values, i2Values}
 
 -- ---- what the tests say
 
@@ -56,54 +55,31 @@ numbers p mode v e =
     let m = mode-of mode (and-true-left (isMode mode) (isRank p v) e) in
     (m .0, m .1, rank-of p v (and-true-right (isMode mode) (isRank p v) e))
 
-pub record Ranked (n1 n2 mode v : ℕ) : Type 0 where
-  pub setting : isSetting n1 n2 ≡ true
-  pub known-mode : isMode mode ≡ true
-  pub rank : Rank (ports n1 n2) v
+-- ---- the ports tell whether the pair is a setting
 
-module _ (n1 n2 mode v : ℕ) where
-  pub ranked-of : isRanked n1 n2 mode v ≡ true → Ranked n1 n2 mode v
-  ranked-of e =
-      let s = isSetting n1 n2 in
-      let m = isMode mode in
-      let k = isRank (ports n1 n2) v in
-      let both = and-true-left (s && m) k e in
-      record {
-        setting = and-true-left s m both;
-        known-mode = and-true-right s m both;
-        rank = rank-of (ports n1 n2) v (and-true-right (s && m) k e);
-      }
+pub sizes-ports : (n1 n2 : ℕ) → sizesOf n1 n2 .ports ≡ cond (isSetting n1 n2) (ports n1 n2) 0
+sizes-ports n1 n2 = cond-each (λ (s : Sizes). s .ports) (isSetting n1 n2) refl refl
 
-  -- a test that passes at every setting, at modes up to 2 and up to eight layers passes here
-  pub at-ranked : (f : ℕ → ℕ → ℕ → ℕ → Bool)
-      → T (each (λ s. every 3 (λ mode. every 9 (f (s .0) (s .1) mode))) settings)
-      → isRanked n1 n2 mode v ≡ true → T (f n1 n2 mode v)
-  at-ranked f t e =
-      let r = ranked-of e in
-      let modes = at-setting n1 n2 (λ a b. every 3 (λ mode. every 9 (f a b mode))) t (r .setting) in
-      let ranks = every-at 3 (λ mode. every 9 (f n1 n2 mode)) modes mode (omega (arith, mode-of mode (r .known-mode))) in
-      every-at 9 (f n1 n2 mode) ranks v (omega (arith, r .rank .v-few))
+pub ranked-by-ports : (n1 n2 mode v : ℕ)
+    → (isMode mode && isRank (sizesOf n1 n2 .ports) v) ≡ isRanked n1 n2 mode v
+ranked-by-ports n1 n2 mode v = rw sizes-ports (go (isSetting n1 n2))
+  where
+    go : (b : Bool) → (isMode mode && isRank (cond b (ports n1 n2) 0) v) ≡ (b && isMode mode && isRank (ports n1 n2) v)
+    go true = refl
+    go false = sym (is-false (isMode mode && isRank 0 v) (λ e. omega (arith, numbers 0 mode v e)))
 
 -- ---- how many values each index has
 
 halved-few : (b : Bool) (x : ℕ) → cond b (x / 2) x ≤ x
 halved-few b x = cond-both (λ n. n ≤ x) b (omega arith) (omega arith)
 
-pub i2-few : (n1 mode v : ℕ) → i2Values n1 mode v ≤ 16
+pub i2-within : (n1 mode v : ℕ) → (1 ≤ i2Values n1 mode v) × (i2Values n1 mode v ≤ 16)
 unfolding i2Values
-i2-few n1 mode v =
-    let few : ℕ → Type 0 = λ n. n ≤ 16 in
-    cond-both few (modeTwo n1 mode v)
-    (cond-both few (eqb v 1) (lit≤ tt) (lit≤ tt))
-    (cond-both few (eqb v 1) (lit≤ tt) (lit≤ tt))
-
-pub i2-some : (n1 mode v : ℕ) → 1 ≤ i2Values n1 mode v
-unfolding i2Values
-i2-some n1 mode v =
-    let some : ℕ → Type 0 = λ n. 1 ≤ n in
-    cond-both some (modeTwo n1 mode v)
-    (cond-both some (eqb v 1) (lit≤ tt) (lit≤ tt))
-    (cond-both some (eqb v 1) (lit≤ tt) (lit≤ tt))
+i2-within n1 mode v =
+    let within : ℕ → Type 0 = λ n. (1 ≤ n) × (n ≤ 16) in
+    cond-both within (modeTwo n1 mode v)
+    (cond-both within (eqb v 1) (lit≤ tt, lit≤ tt) (lit≤ tt, lit≤ tt))
+    (cond-both within (eqb v 1) (lit≤ tt, lit≤ tt) (lit≤ tt, lit≤ tt))
 
 module _ (n1 n2 mode v : ℕ) where
   pub i11-few : i11Values n1 n2 mode v ≤ across n1

@@ -5,7 +5,7 @@ use borrow.Author.Needs.{needs}
 use borrow.Author.Tests.{le-leb, lt-leb, not-false, not-true}
 use Rattle.settings.specs.declared.Sizes.{Sizes}
 use Rattle.settings.specs.Ranges.{isMode, isRank, isRanked, rangesOf}
-use Rattle.settings.proofs.Given.{ranked-by-ports}
+use Rattle.settings.proofs.Ranked.{ranked-by-ports}
 use Rattle.settings.proofs.ByRank.{given, byRank, by-rank}
 use Rattle.settings.proofs.ranges_of.Statement.{statement}
 use Rattle.settings.proofs.ranges_of.Tie as tie

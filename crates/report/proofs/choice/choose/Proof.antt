@@ -8,7 +8,7 @@ use Rattle.settings.specs.Ranges.{beam, halfLength}
 use Rattle.report.specs.Beams.{isHalf, base, moved, Small}
 use Rattle.report.proofs.InRange.{v-some, i11-small, i12-small}
 use Rattle.report.proofs.Sized.{sizes-ports}
-use Rattle.report.proofs.Steps.{is-small, rows-small, base-small, base-movable, moved-from-base}
+use Rattle.report.proofs.Steps.{is-small, row-right, base-small, base-movable, moved-from-base}
 use Rattle.report.proofs.Offsets.{said-one, said-half, said-two}
 use Rattle.report.proofs.Reached.{two-ports-said}
 use Rattle.report.proofs.choice.choose.Statement.{statement}
@@ -90,7 +90,7 @@ moved-by-requires-2 c κs =
       b .before .before .if1 .left,
       s .pre .1,
       record { l = omega (arith, small .l, i11-small r h); m = omega (arith, small .m, i12-small r h) },
-      rw (c .k-row .ensures) (rows-small _ _ _ .at (r .i13)),
+      rw (c .k-row .ensures) (row-right r (k-row-requires (c .before) (c .k-row .lifetimes)) .small),
     )
 
 -- the second beam is B, as it was before it was reduced, moved by the row of k
