@@ -29,8 +29,8 @@ is-small x t = let e = two-le (x .l) 255 (x .m) 255 t in record { l = e .0; m = 
 
 -- ---- the row of k for i13, compared with its definition at every setting, rank and place
 
-abbrev at : ℕ → ℕ → ℕ → Beam
-at n2 j last = eqb n2 1 ⇒ beam j 0 ∣ eqb j last ⇒ beam 2 0 ∣ beam (j % 2) (j / 2)
+abbrev pub at : ℕ → ℕ → ℕ → Beam
+at n2 j last = ltb 1 n2 ⇒ (eqb j last ⇒ beam 2 0 ∣ beam (j % 2) (j / 2)) ∣ beam j 0
 
 -- as the code gives it
 unfoldable pub rowAt : ℕ → ℕ → ℕ → ℕ → Beam

@@ -4,18 +4,18 @@ use settings::Beam;
 ghost use mathlib.Core.Path.{_≡_};
 ghost use mathlib.Core.Bool.{false};
 ghost use Prim.Native.Nat.{_/_, _%_, _≤_};
-ghost use lib.Dec.{eqb};
+ghost use lib.Dec.{eqb, ltb};
 ghost use lib.ListN.{getD};
 ghost use Rattle.ground.specs.Cases.{_⇒_∣_};
 ghost use Rattle.settings.specs.Ranges.{beam, kRows};
 ghost use Rattle.report.specs.Rules.{InRange};
 ghost use Rattle.report.specs.Beams.{isHalf};
 
-// The row at place j of (0,0), (1,0), (2,0), .. for N2 = 1, and else of (0,0), (1,0), (0,1), (1,1), with (2,0) at `last`.
-fn k_at(n2: u32, j: u32, last: u32) -> Beam
-    ensures { λ k. ⌜ k ≡ (eqb n2 1 ⇒ beam j 0 ∣ eqb j last ⇒ beam 2 0 ∣ beam (j % 2) (j / 2)) ⌝ }
+// The step at place j of (0,0), (1,0), (2,0), .. for N2 = 1, and else of (0,0), (1,0), (0,1), (1,1), with (2,0) at `last`.
+pub fn k_at(n2: u32, j: u32, last: u32) -> Beam
+    ensures { λ k. ⌜ k ≡ (ltb 1 n2 ⇒ (eqb j last ⇒ beam 2 0 ∣ beam (j % 2) (j / 2)) ∣ beam j 0) ⌝ }
 {
-    if n2 == 1 {
+    if n2 <= 1 {
         return Beam { l: j, m: 0 };
     }
     if j == last {
