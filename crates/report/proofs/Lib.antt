@@ -1,7 +1,6 @@
 -- Laws of a report: its refusals, how far its beams stand from B, and where they lie.
 pub mod InRange
 pub mod Judged
-pub mod Sized
 pub mod Steps
 pub mod Offsets
 pub mod Reached

@@ -90,13 +90,4 @@ module _ (r : Report) (h : InRange r) (two : r .n1 ≡ 1) where
 
   pub two-ports-said : (s : Sizes) {y : Beams} → y ≡ saidOf r s false (r .v) (none ∷ none ∷ none ∷ none ∷ [])
       → y ≡ saidAll r s
-  two-ports-said s p =
-      p
-      ∙ rw (
-        two-ports-whole,
-        two-ports-count,
-        two-ports-beam 0,
-        two-ports-beam 1,
-        two-ports-beam 2,
-        two-ports-beam 3,
-      )
+  two-ports-said s p = p ∙ simp (two-ports-whole, two-ports-count, two-ports-beam)

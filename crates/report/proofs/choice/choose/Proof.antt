@@ -4,10 +4,10 @@ use mathlib.Core.Bool.{false}
 use Prim.Native.Nat.{ℕ, _≤_}
 use native.Mathlib.Omega.{arith}
 use borrow.Author.Needs.{needs}
+use Rattle.settings.specs.declared.Sizes.{Sizes}
 use Rattle.settings.specs.Ranges.{beam, halfLength}
 use Rattle.report.specs.Beams.{isHalf, base, moved, Small}
 use Rattle.report.proofs.InRange.{v-some, i11-small, i12-small}
-use Rattle.report.proofs.Sized.{sizes-ports}
 use Rattle.report.proofs.Steps.{is-small, row-right, base-small, base-movable, moved-from-base}
 use Rattle.report.proofs.Offsets.{said-one, said-half, said-two}
 use Rattle.report.proofs.Reached.{two-ports-said}
@@ -27,8 +27,7 @@ moved₃ c = c .before .before .before .before
 half : (c : tie.After-is-half-length) → c .is-half-length .result ≡ isHalf (start₁ (c .before) .args .r)
 half c =
     let s = start₁ (c .before) in
-    let p = sizes-ports _ _ (s .pre .1) (s .pre .0 .setting) in
-    c .is-half-length .ensures ∙ ap (λ (p : ℕ). halfLength p (s .args .r .v)) p
+    c .is-half-length .ensures ∙ ap (λ (z : Sizes). halfLength (z .ports) (s .args .r .v)) (s .pre .1) ∙ rw (s .pre .0 .setting)
 
 -- the first beam
 first : (c : tie.After-moved-by) → let r = startB (c .before) .args .r in c .moved-by .result ≡ moved r (base r) (beam 0 0)

@@ -83,10 +83,11 @@ returns-2 c =
     let m3 = c .before .before .before in
     let many = m3 .before .before in
     let s = many .before .before .before in
+    let wide = ltb 1 (s .args .r .n2) in
     let second = from-base s (many .before .before .moved-by .ensures) refl in
     said-four _ _ (from-base s (s .pre .3) refl) second (s .pre .4) (c .said2 .ensures) (many .if1 .left)
-    (from-base s (m3 .moved-by3 .ensures) (m3 .before .k-at2 .ensures))
-    (from-base s (c .before .moved-by4 .ensures) (c .before .before .k-at3 .ensures))
+    (from-base s {j = cond wide (beam 0 1) (beam 2 0)} (m3 .moved-by3 .ensures) (m3 .before .k-at2 .ensures))
+    (from-base s {j = cond wide (beam 1 1) (beam 3 0)} (c .before .moved-by4 .ensures) (c .before .before .k-at3 .ensures))
 
 pub choose-many-spec : {M : Type 1} → statement M
 choose-many-spec =
