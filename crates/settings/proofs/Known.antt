@@ -1,17 +1,13 @@
 -- What is known of every setting: tests computed over the list of them, and lifted to each.
 use mathlib.Core.Path.{_≡_, sym, subst}
-use mathlib.Core.Logic.{inl, inr}
-use mathlib.Core.Bool.{Bool, true, Bool·beq, _&&_, _||_}
+use mathlib.Core.Bool.{Bool, true, _&&_, _||_}
 use Prim.Native.Nat.{ℕ, _*_, _≤_}
-use native.Mathlib.Nat.{eq-or-lt-of-le}
 use native.Mathlib.Omega.{arith}
-use lib.Dec.{T, eqb, leb, ltb, eqb→eq, leb→le, ltb→lt, lit≤}
-use borrow.Author.Tests.{eq-eqb, ne-eqb, lt-ltb, le-ltb}
+use lib.Dec.{T, eqb, leb, ltb, eqb→eq, leb→le, ltb→lt}
 use Rattle.ground.specs.Lists.{each}
-use Rattle.ground.proofs.Booleans.{cond-both, same-truth}
 use Rattle.ground.proofs.Tests.{and-left, and-right, or-else}
 use Rattle.ground.proofs.Lists.{at-some}
-use Rattle.settings.specs.Settings.{settings, isSetting, ports, twoPorts, o1, o2, across, down, maskBytes}
+use Rattle.settings.specs.Settings.{settings, isSetting, ports, twoPorts, across, down, maskBytes}
 
 module _ (n1 n2 : ℕ) where
   -- a test that passes at every setting passes at this one

@@ -1,6 +1,6 @@
 -- `ranges_of` meets its contract: where the setting, the mode and the rank pass, it gives the values of each index.
 use mathlib.Core.Path.{_≡_, sym, ap, _∙_}
-use mathlib.Core.Bool.{true, _&&_}
+use mathlib.Core.Bool.{_&&_}
 use borrow.Author.Needs.{needs}
 use borrow.Author.Tests.{le-leb, lt-leb, not-false, not-true}
 use Rattle.settings.specs.declared.Sizes.{Sizes}

@@ -1,7 +1,7 @@
 -- `choice::choose` meets its contract: its beams are those of the offsets, and two ports have none but (0,0).
 use mathlib.Core.Path.{_≡_, refl, sym, ap, _∙_}
 use mathlib.Core.Bool.{false}
-use Prim.Native.Nat.{ℕ, _≤_}
+use Prim.Native.Nat.{_≤_}
 use native.Mathlib.Omega.{arith}
 use borrow.Author.Needs.{needs}
 use Rattle.settings.specs.declared.Sizes.{Sizes}
