@@ -1,5 +1,4 @@
--- A report judged by its ranges: no ports mean no setting, no values of i2 no mode or no rank, and each index is held to its
--- values.
+-- A report judged by its ranges: no ports mean no setting, no values of i2 no mode or no rank; then each index has its range.
 use mathlib.Core.Path.{_≡_, refl, sym, ap, _∙_}
 use mathlib.Core.Bool.{Bool, true, false, cond, not, _&&_}
 use Prim.Native.Nat.{ℕ}
@@ -32,7 +31,8 @@ module _ (r : Report) where
       let i2 = i2Values (r .n1) (r .mode) (r .v) in
       rw sizes-ports
       (go (isSetting (r .n1) (r .n2)) (isMode (r .mode)) (isRank p (r .v)) p
-      (i11Values (r .n1) (r .n2) (r .mode) (r .v)) (i12Values (r .n1) (r .n2) (r .mode) (r .v)) (i13Values (r .n1) (r .n2) (r .v)) i2
+      (i11Values (r .n1) (r .n2) (r .mode) (r .v)) (i12Values (r .n1) (r .n2) (r .mode) (r .v))
+      (i13Values (r .n1) (r .n2) (r .v)) i2
       (λ set. ne-eqb p 0 (λ z. omega (arith, known _ _ set .antennas-some)))
       (ne-eqb i2 0 (λ z. omega (arith, i2-within (r .n1) (r .mode) (r .v)))))
       ∙ ap byRanges (sym e)

@@ -94,14 +94,10 @@ abbrev pub saidAll : Report → Sizes → Beams
 saidAll r s = saidOf r s (isHalf r) (length (beams r)) (beams r)
 
 module _ (r : Report) (s : Sizes) {y : Beams} {a : Beam} (first : a ≡ moved r (base r) (beam 0 0)) where
-  pub said-one : y ≡ saidOf r s false 1 (a ∷ beam 0 0 ∷ beam 0 0 ∷ beam 0 0 ∷ []) → r .v ≡ 1 → y ≡ saidAll r s
+  pub said-single : {half : Bool} → y ≡ saidOf r s half 1 (a ∷ beam 0 0 ∷ beam 0 0 ∷ beam 0 0 ∷ [])
+      → isHalf r ≡ half → (eqb (r .v) 1 || half) ≡ true → r .v ≤ 4 → y ≡ saidAll r s
   unfolding beams
-  said-one p e = p ∙ rw (whole-few r (omega arith), offsets-few-layers r (omega arith), eq-eqb (r .v) 1 e, first)
-
-  pub said-half : y ≡ saidOf r s true 1 (a ∷ beam 0 0 ∷ beam 0 0 ∷ beam 0 0 ∷ [])
-      → isHalf r ≡ true → (r .v ≡ 1 → ⊥) → r .v ≤ 4 → y ≡ saidAll r s
-  unfolding beams
-  said-half p h more few = p ∙ rw (offsets-few-layers r few, ne-eqb (r .v) 1 more, h, first)
+  said-single p h alone few = p ∙ rw (offsets-few-layers r few, h, alone, first)
 
   pub said-two : {b : Beam} → y ≡ saidOf r s false 2 (a ∷ b ∷ beam 0 0 ∷ beam 0 0 ∷ [])
       → isHalf r ≡ false → (r .v ≡ 1 → ⊥) → r .v ≤ 4

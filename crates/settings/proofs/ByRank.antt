@@ -66,7 +66,8 @@ module _ (n1 n2 mode v : ℕ) (ranked : isRanked n1 n2 mode v ≡ true) where
   unfolding right byRank settings each every modeTwo halfLength kTwo kThree kRows
       halvesI11 i11Values halvesI12 i12Values i13Values i2Values
   all-right =
-      let f : ℕ → ℕ → ℕ → ℕ → Bool = λ a b m k. not (isRank (ports a b) k) || right a b m k (byRank (sizesAt a b) a b m k) in
+      let f : ℕ → ℕ → ℕ → ℕ → Bool =
+      λ a b m k. not (isRank (ports a b) k) || right a b m k (byRank (sizesAt a b) a b m k) in
       let m = mode-of mode (and-true-right (isSetting n1 n2) (isMode mode) known-mode) in
       let rank = and-true-right (isSetting n1 n2 && isMode mode) (isRank (ports n1 n2) v) ranked in
       let modes = at-setting n1 n2 (λ a b. every 3 (λ m. every 9 (f a b m))) tt setting in

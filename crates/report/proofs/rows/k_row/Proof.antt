@@ -13,13 +13,15 @@ returns : tie.Need-returns
 unfolding rowAt
 returns c =
     let t = c .before .before .before in
-    rw (c .k-at .ensures) (rw (eq-eqb _ 2 (t .if1 .taken), eq-eqb _ _ (c .before .if2 .taken)) at (right (t .before .before) .given))
+    rw (c .k-at .ensures)
+    (rw (eq-eqb _ 2 (t .if1 .taken), eq-eqb _ _ (c .before .if2 .taken)) at (right (t .before .before) .given))
 
 returns-2 : tie.Need-returns-2
 unfolding rowAt
 returns-2 c =
     let t = c .before .before .before in
-    rw (c .k-at2 .ensures) (rw (eq-eqb _ 2 (t .if1 .taken), ne-eqb _ _ (c .before .if2 .left)) at (right (t .before .before) .given))
+    rw (c .k-at2 .ensures)
+    (rw (eq-eqb _ 2 (t .if1 .taken), ne-eqb _ _ (c .before .if2 .left)) at (right (t .before .before) .given))
 
 returns-3 : tie.Need-returns-3
 unfolding rowAt

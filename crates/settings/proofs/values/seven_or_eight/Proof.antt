@@ -21,4 +21,5 @@ returns-4 c =
     rw (c .plain2 .ensures, ne-eqb _ 2 (l .before .before .if1 .left), ne-eqb _ 8 (l .if3 .left))
 
 pub seven-or-eight-spec : {M : Type 1} → statement M
-seven-or-eight-spec = tie.close (tie.spec returns (λ c κs. search needs) returns-2 returns-3 (λ c κs. search needs) returns-4)
+seven-or-eight-spec =
+    tie.close (tie.spec returns (λ c κs. search needs) returns-2 returns-3 (λ c κs. search needs) returns-4)
