@@ -3,6 +3,7 @@ use mathlib.Core.Path.{_≡_, sym, ap, _∙_}
 use mathlib.Core.Bool.{_&&_}
 use borrow.Author.Needs.{needs}
 use borrow.Author.Tests.{le-leb, lt-leb, not-false, not-true}
+use Rattle.settings.specs.declared.Ranges.{Ranges}
 use Rattle.settings.specs.declared.Sizes.{Sizes}
 use Rattle.settings.specs.Ranges.{isMode, isRank, isRanked, rangesOf}
 use Rattle.settings.proofs.Ranked.{ranked-by-ports}
@@ -20,12 +21,12 @@ tested c =
     ∙ ap (λ (s : Sizes). isMode (a .mode) && isRank (s .ports) (a .v)) (sym (c .before .sizes-of .ensures))
     ∙ sym (c .is-ranked .ensures)
 
-right : (c : tie.Else1)
+right : (c : tie.Else1) {x : Ranges}
     → let z = c .before .before in
     let a = z .before .args in
-    given (z .sizes-of .result) (byRank (z .sizes-of .result) (a .n1) (a .n2) (a .mode) (a .v))
-    ≡ rangesOf (a .n1) (a .n2) (a .mode) (a .v)
-right c = by-rank _ _ _ _ (tested (c .before) ∙ not-false _ (c .if1 .left)) (c .before .before .sizes-of .ensures)
+    x ≡ given (z .sizes-of .result) (byRank (z .sizes-of .result) (a .n1) (a .n2) (a .mode) (a .v))
+    → x ≡ rangesOf (a .n1) (a .n2) (a .mode) (a .v)
+right c e = e ∙ by-rank _ _ _ _ (tested (c .before) ∙ not-false _ (c .if1 .left)) (c .before .before .sizes-of .ensures)
 
 returns : tie.Need-returns
 returns c = rw (c .before .before .sizes-of .ensures, tested (c .before) ∙ not-true _ (c .if1 .taken))
@@ -36,7 +37,7 @@ returns-2 c =
     let m = c .before in
     let t = m .before .before in
     let acts = sym (m .before .is-mode-two .ensures) ∙ m .if3 .taken in
-    rw (c .in-mode-two .ensures) (rw (le-leb _ 2 (t .if2 .taken), acts) at (right (t .before)))
+    right (t .before) (rw (c .in-mode-two .ensures, le-leb _ 2 (t .if2 .taken), acts))
 
 returns-3 : tie.Need-returns-3
 unfolding byRank
@@ -44,30 +45,30 @@ returns-3 c =
     let m = c .before in
     let t = m .before .before in
     let idle = sym (m .before .is-mode-two .ensures) ∙ m .if3 .left in
-    rw (c .in-mode-one .ensures) (rw (le-leb _ 2 (t .if2 .taken), idle) at (right (t .before)))
+    right (t .before) (rw (c .in-mode-one .ensures, le-leb _ 2 (t .if2 .taken), idle))
 
 returns-4 : tie.Need-returns-4
 unfolding byRank
 returns-4 c =
     let t = c .before in
     let l = t .before in
-    rw (c .three-or-four .ensures) (rw (lt-leb _ 2 (l .if2 .left), le-leb _ 4 (t .if4 .taken)) at (right (l .before)))
+    right (l .before) (rw (c .three-or-four .ensures, lt-leb _ 2 (l .if2 .left), le-leb _ 4 (t .if4 .taken)))
 
 returns-5 : tie.Need-returns-5
 unfolding byRank
 returns-5 c =
     let t = c .before in
     let l = t .before .before in
-    rw (c .plain .ensures)
-    (rw (lt-leb _ 2 (l .if2 .left), lt-leb _ 4 (t .before .if4 .left), le-leb _ 6 (t .if5 .taken)) at (right (l .before)))
+    let four = lt-leb _ 4 (t .before .if4 .left) in
+    right (l .before) (rw (c .plain .ensures, lt-leb _ 2 (l .if2 .left), four, le-leb _ 6 (t .if5 .taken)))
 
 returns-6 : tie.Need-returns-6
 unfolding byRank
 returns-6 c =
     let m = c .before in
     let l = m .before .before in
-    rw (c .seven-or-eight .ensures)
-    (rw (lt-leb _ 2 (l .if2 .left), lt-leb _ 4 (m .before .if4 .left), lt-leb _ 6 (m .if5 .left)) at (right (l .before)))
+    let four = lt-leb _ 4 (m .before .if4 .left) in
+    right (l .before) (rw (c .seven-or-eight .ensures, lt-leb _ 2 (l .if2 .left), four, lt-leb _ 6 (m .if5 .left)))
 
 pub ranges-of-spec : {M : Type 1} → statement M
 ranges-of-spec =
