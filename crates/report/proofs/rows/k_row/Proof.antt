@@ -12,22 +12,22 @@ right s = row-right (s .args .r) (s .pre)
 returns : tie.Need-returns
 unfolding rowAt
 returns c =
-    let t = c .before .before .before in
+    let s = c .before .before .before .before .before in
     rw (c .k-at .ensures)
-    (rw (eq-eqb _ 2 (t .if1 .taken), eq-eqb _ _ (c .before .if2 .taken)) at (right (t .before .before) .given))
+    (rw (eq-eqb (s .args .r .v) 2 (omega arith), eq-eqb _ _ (c .before .if2 .taken)) at (right s .given))
 
 returns-2 : tie.Need-returns-2
 unfolding rowAt
 returns-2 c =
-    let t = c .before .before .before in
+    let s = c .before .before .before .before .before in
     rw (c .k-at2 .ensures)
-    (rw (eq-eqb _ 2 (t .if1 .taken), ne-eqb _ _ (c .before .if2 .left)) at (right (t .before .before) .given))
+    (rw (eq-eqb (s .args .r .v) 2 (omega arith), ne-eqb _ _ (c .before .if2 .left)) at (right s .given))
 
 returns-3 : tie.Need-returns-3
 unfolding rowAt
 returns-3 c =
-    let t = c .before .before in
-    rw (c .k-at3 .ensures) (rw (ne-eqb _ 2 (t .if1 .left)) at (right (t .before .before) .given))
+    let s = c .before .before .before .before in
+    rw (c .k-at3 .ensures) (rw (ne-eqb (s .args .r .v) 2 (λ e. omega arith)) at (right s .given))
 
 pub k-row-spec : {M : Type 1} → statement M
 k-row-spec =
