@@ -12,7 +12,7 @@ use Rattle.ground.proofs.First.{first-none}
 use Rattle.settings.specs.Settings.{ports}
 use Rattle.settings.specs.Ranges.{modeTwo, i2Values}
 use Rattle.settings.proofs.Known.{known, one-by-one}
-use Rattle.settings.proofs.Ranked.{Rank, rank-of, i11-few, i12-few, i2-within}
+use Rattle.settings.proofs.Ranked.{rank-of, i11-few, i12-few, i2-within}
 use Rattle.report.specs.declared.Report.{Report}
 use Rattle.report.specs.Rules.{rule, ownOrder, InRange}
 use Rattle.report.specs.Beams.{inModeTwo, g, q}
@@ -57,17 +57,14 @@ pub g-some : (v : ℕ) → 0 < g v
 g-some v = cond-both (λ n. 0 < n) (eqb v 1) (lit< tt) (lit< tt)
 
 module _ (r : Report) (h : InRange r) where
-  ranked : Rank (ports (r .n1) (r .n2)) (r .v)
-  ranked = rank-of _ _ (h .rank)
-
   pub v-some : 1 ≤ r .v
-  v-some = ranked .v-some
+  v-some = rank-of (ports (r .n1) (r .n2)) (r .v) (h .rank) .v-some
 
   pub v-few : r .v ≤ 8
-  v-few = ranked .v-few
+  v-few = rank-of (ports (r .n1) (r .n2)) (r .v) (h .rank) .v-few
 
   pub v-fits : r .v ≤ ports (r .n1) (r .n2)
-  v-fits = ranked .v-fits
+  v-fits = rank-of (ports (r .n1) (r .n2)) (r .v) (h .rank) .v-fits
 
   pub i11-small : r .i11 < 64
   i11-small =

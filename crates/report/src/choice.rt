@@ -91,8 +91,8 @@ fn said(r: Report, s: Sizes, half: bool, count: u32, a: Beam, b: Beam, c: Beam, 
     }
 }
 
-// v = 5 to 8: x is B before it is reduced, and a afterwards. The third beam of v = 5 and 6 is the fourth of v = 7 and 8, and
-// for N2 = 1 the third.
+// v = 5 to 8: x is B before it is reduced, and a afterwards. The third beam of v = 5 and 6 has the place of the fourth of
+// v = 7 and 8, and for N2 = 1 that of the third.
 fn choose_many(r: Report, s: Sizes, x: Beam, a: Beam) -> Beams
     requires { ⌜ InRange r × (s ≡ sizesOf (r .n1) (r .n2)) × (x ≡ base r) × (a ≡ moved r x (beam 0 0)) × (5 ≤ r .v) ⌝ }
     ensures { λ y. ⌜ y ≡ saidOf r s (isHalf r) (length (beams r)) (beams r) ⌝ }

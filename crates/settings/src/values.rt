@@ -69,7 +69,7 @@ pub fn plain(s: Sizes, i13: u32) -> Ranges
     }
 }
 
-// At two layers of p ports, the values of i13.
+// How many values i13 has at two layers of p ports.
 fn second_beams(p: u32) -> u32
     ensures { λ x. ⌜ x ≡ (ltb p 8 ⇒ p / 2 ∣ 4) ⌝ }
 {
@@ -131,7 +131,8 @@ pub fn in_mode_one(v: u32, s: Sizes) -> Ranges
     plain(s, second_beams(s.ports))
 }
 
-// Three and four layers. Beams are of half length from 16 ports on; of less, four ports have one row of k, and twelve four.
+// Three and four layers. Beams are of half length from 16 ports on. Below, p / 3 gives four ports one row of k, and twelve
+// ports four.
 pub fn three_or_four(s: Sizes) -> Ranges
     ensures { λ a. ⌜ a ≡ record {
       sizes = s;
