@@ -3,7 +3,7 @@ use mathlib.Core.Path.{_≡_}
 use mathlib.Core.Bool.{false, _&&_}
 use Prim.Native.Nat.{ℕ, _/_, _<_, _≤_}
 use native.Mathlib.Omega.{arith}
-use lib.Dec.{eqb, leb, lit≤, lit<}
+use lib.Dec.{eqb, leb, lit<}
 use borrow.Author.Tests.{not-false, leb-false, lt-leb, eq-eqb}
 use Rattle.ground.specs.Lists.{among}
 use Rattle.ground.specs.First.{first, numbered, None}
@@ -12,7 +12,7 @@ use Rattle.ground.proofs.First.{first-none}
 use Rattle.settings.specs.Settings.{ports}
 use Rattle.settings.specs.Ranges.{modeTwo, i2Values}
 use Rattle.settings.proofs.Known.{known, one-by-one}
-use Rattle.settings.proofs.Ranked.{Rank, rank-of, i11-few, i12-few, i2-few}
+use Rattle.settings.proofs.Ranked.{rank-of, i11-few, i12-few, i2-within}
 use Rattle.report.specs.declared.Report.{Report}
 use Rattle.report.specs.Rules.{rule, ownOrder, InRange}
 use Rattle.report.specs.Beams.{inModeTwo, g, q}
@@ -56,21 +56,15 @@ zero-in-range r e = in-range r (first-none (rule r) ownOrder tt e)
 pub g-some : (v : ℕ) → 0 < g v
 g-some v = cond-both (λ n. 0 < n) (eqb v 1) (lit< tt) (lit< tt)
 
-g-few : (v : ℕ) → g v ≤ 4
-g-few v = cond-both (λ n. n ≤ 4) (eqb v 1) (lit≤ tt) (lit≤ tt)
-
 module _ (r : Report) (h : InRange r) where
-  ranked : Rank (ports (r .n1) (r .n2)) (r .v)
-  ranked = rank-of _ _ (h .rank)
-
   pub v-some : 1 ≤ r .v
-  v-some = ranked .v-some
+  v-some = rank-of (ports (r .n1) (r .n2)) (r .v) (h .rank) .v-some
 
   pub v-few : r .v ≤ 8
-  v-few = ranked .v-few
+  v-few = rank-of (ports (r .n1) (r .n2)) (r .v) (h .rank) .v-few
 
   pub v-fits : r .v ≤ ports (r .n1) (r .n2)
-  v-fits = ranked .v-fits
+  v-fits = rank-of (ports (r .n1) (r .n2)) (r .v) (h .rank) .v-fits
 
   pub i11-small : r .i11 < 64
   i11-small =
@@ -79,11 +73,10 @@ module _ (r : Report) (h : InRange r) where
   pub i12-small : r .i12 < 16
   i12-small = omega (arith, h .i12, i12-few (r .n1) (r .n2) (r .mode) (r .v), known _ _ (h .setting) .down-few)
 
-  pub i2-small : r .i2 < 16
-  i2-small = omega (arith, h .i2, i2-few (r .n1) (r .mode) (r .v))
-
   pub q-small : q r < 16
-  q-small = cond-both (λ n. r .i2 / n < 16) (eqb (r .v) 1) (omega (arith, i2-small)) (omega (arith, i2-small))
+  q-small =
+      let few : r .i2 < 16 = omega (arith, h .i2, i2-within (r .n1) (r .mode) (r .v)) in
+      cond-both (λ n. r .i2 / n < 16) (eqb (r .v) 1) (omega arith) (omega arith)
 
 -- ---- two ports: mode 2 has no effect, and there are two layers at most
 
@@ -92,14 +85,13 @@ unfolding modeTwo
 one-mode r two = rw (eq-eqb _ _ two) (and-nothing (eqb (r .mode) 2 && leb (r .v) 2))
 
 module _ (r : Report) (h : InRange r) (two : r .n1 ≡ 1) where
-  pub two-ports : ports (r .n1) (r .n2) ≡ 2
-  two-ports = rw (two, one-by-one _ _ (h .setting) two)
-
   pub two-ports-v : r .v ≤ 2
-  two-ports-v = omega (arith, two-ports, v-fits r h)
+  two-ports-v =
+      let two-ports : ports (r .n1) (r .n2) ≡ 2 = rw (two, one-by-one _ _ (h .setting) two) in
+      omega (arith, v-fits r h)
 
   pub two-ports-i2 : r .i2 ≤ 3
   unfolding i2Values
   two-ports-i2 =
-      let e : r .i2 < g (r .v) = rw (one-mode r two) at (h .i2) in
-      omega (arith, e, g-few (r .v))
+      cond-both (λ n. r .i2 < n → r .i2 ≤ 3) (eqb (r .v) 1) (λ k. omega arith) (λ k. omega arith)
+      (rw (one-mode r two) at (h .i2))

@@ -1,10 +1,8 @@
 -- Laws of a report: its refusals, how far its beams stand from B, and where they lie.
 pub mod InRange
 pub mod Judged
-pub mod Sized
 pub mod Steps
 pub mod Offsets
 pub mod Reached
-pub mod Given
 pub mod Unique
 pub mod Examples

@@ -28,14 +28,13 @@ whole-many r h = rw (le-leb 3 (r .v) (omega arith), lt-leb (r .v) 4 h)
 -- ---- the offsets
 
 module _ (r : Report) where
-  pub offsets-one : r .v ≤ 4 → (eqb (r .v) 1 || isHalf r) ≡ true → offsets r ≡ beam 0 0 ∷ []
+  -- to four layers there is no B′, or it stands a row of k from B
+  pub offsets-few-layers : r .v ≤ 4
+      → offsets r
+      ≡ cond (eqb (r .v) 1 || isHalf r) (beam 0 0 ∷ [])
+      (beam 0 0 ∷ getD (kRows (r .n1) (r .n2) (r .v)) (r .i13) (beam 0 0) ∷ [])
   unfolding offsets
-  offsets-one h e = rw (lt-leb 7 (r .v) (omega arith), lt-leb 5 (r .v) (omega arith), e)
-
-  pub offsets-two : r .v ≤ 4 → (eqb (r .v) 1 || isHalf r) ≡ false
-      → offsets r ≡ beam 0 0 ∷ getD (kRows (r .n1) (r .n2) (r .v)) (r .i13) (beam 0 0) ∷ []
-  unfolding offsets
-  offsets-two h e = rw (lt-leb 7 (r .v) (omega arith), lt-leb 5 (r .v) (omega arith), e)
+  offsets-few-layers h = rw (lt-leb 7 (r .v) (omega arith), lt-leb 5 (r .v) (omega arith))
 
   -- the step of a place is decided by N2
   pub offsets-three : 5 ≤ r .v → r .v ≤ 6
@@ -68,11 +67,6 @@ counted-some v single =
     cond-both (λ n. 1 ≤ n) (leb 7 v) (lit≤ tt)
     (cond-both (λ n. 1 ≤ n) (leb 5 v) (lit≤ tt) (cond-both (λ n. 1 ≤ n) single (lit≤ tt) (lit≤ tt)))
 
-pub counted-few : (v : ℕ) (single : Bool) → counted v single ≤ 4
-counted-few v single =
-    cond-both (λ n. n ≤ 4) (leb 7 v) (lit≤ tt)
-    (cond-both (λ n. n ≤ 4) (leb 5 v) (lit≤ tt) (cond-both (λ n. n ≤ 4) single (lit≤ tt) (lit≤ tt)))
-
 module _ (r : Report) where
   pub length-offsets : length (offsets r) ≡ counted (r .v) (eqb (r .v) 1 || isHalf r)
   unfolding offsets
@@ -83,11 +77,12 @@ module _ (r : Report) where
       (cond-both (λ (ks : List Beam). length ks ≡ 3) (ltb 1 (r .n2)) refl refl)
       (cond-each length (eqb (r .v) 1 || isHalf r) refl refl))
 
-  pub offsets-some : 1 ≤ length (offsets r)
-  offsets-some = rw length-offsets (counted-some (r .v) (eqb (r .v) 1 || isHalf r))
-
   pub offsets-few : length (offsets r) ≤ 4
-  offsets-few = rw length-offsets (counted-few (r .v) (eqb (r .v) 1 || isHalf r))
+  offsets-few =
+      let few : ℕ → Type 0 = λ n. n ≤ 4 in
+      rw length-offsets
+      (cond-both few (leb 7 (r .v)) (lit≤ tt)
+      (cond-both few (leb 5 (r .v)) (lit≤ tt) (cond-both few (eqb (r .v) 1 || isHalf r) (lit≤ tt) (lit≤ tt))))
 
   pub length-beams : length (beams r) ≡ length (offsets r)
   unfolding beams
@@ -99,20 +94,16 @@ abbrev pub saidAll : Report → Sizes → Beams
 saidAll r s = saidOf r s (isHalf r) (length (beams r)) (beams r)
 
 module _ (r : Report) (s : Sizes) {y : Beams} {a : Beam} (first : a ≡ moved r (base r) (beam 0 0)) where
-  pub said-one : y ≡ saidOf r s false 1 (a ∷ beam 0 0 ∷ beam 0 0 ∷ beam 0 0 ∷ []) → r .v ≡ 1 → y ≡ saidAll r s
+  pub said-single : {half : Bool} → y ≡ saidOf r s half 1 (a ∷ beam 0 0 ∷ beam 0 0 ∷ beam 0 0 ∷ [])
+      → isHalf r ≡ half → (eqb (r .v) 1 || half) ≡ true → r .v ≤ 4 → y ≡ saidAll r s
   unfolding beams
-  said-one p e = p ∙ rw (whole-few r (omega arith), offsets-one r (omega arith) (rw (eq-eqb (r .v) 1 e)), first)
-
-  pub said-half : y ≡ saidOf r s true 1 (a ∷ beam 0 0 ∷ beam 0 0 ∷ beam 0 0 ∷ [])
-      → isHalf r ≡ true → (r .v ≡ 1 → ⊥) → r .v ≤ 4 → y ≡ saidAll r s
-  unfolding beams
-  said-half p h more few = p ∙ rw (h, offsets-one r few (rw (ne-eqb (r .v) 1 more, h)), first)
+  said-single p h alone few = p ∙ rw (offsets-few-layers r few, h, alone, first)
 
   pub said-two : {b : Beam} → y ≡ saidOf r s false 2 (a ∷ b ∷ beam 0 0 ∷ beam 0 0 ∷ [])
       → isHalf r ≡ false → (r .v ≡ 1 → ⊥) → r .v ≤ 4
       → b ≡ moved r (base r) (getD (kRows (r .n1) (r .n2) (r .v)) (r .i13) (beam 0 0)) → y ≡ saidAll r s
   unfolding beams
-  said-two p h more few second = p ∙ rw (h, offsets-two r few (rw (ne-eqb (r .v) 1 more, h)), first, second)
+  said-two p h more few second = p ∙ rw (offsets-few-layers r few, ne-eqb (r .v) 1 more, h, first, second)
 
   module _ {b : Beam} (second : b ≡ moved r (base r) (beam 1 0)) (many : 5 ≤ r .v) where
     pub said-three : {c : Beam} → y ≡ saidOf r s false 3 (a ∷ b ∷ c ∷ beam 0 0 ∷ []) → r .v ≤ 6

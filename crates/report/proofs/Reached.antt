@@ -28,26 +28,19 @@ pub record Reached (n1 n2 : ℕ) (x : Beam) : Type 0 where
   pub l : x .l < across n1
   pub m : x .m < down n2
 
-module _ (r : Report) (set : isSetting (r .n1) (r .n2) ≡ true) where
-  setting : Known (r .n1) (r .n2)
-  setting = known _ _ set
+-- every beam of a report is, and so is what stands where there is none
+pub beams-within : (r : Report) → isSetting (r .n1) (r .n2) ≡ true → (i : ℕ)
+    → Reached (r .n1) (r .n2) (getD (beams r) i none)
+unfolding beams moved
+beams-within r set i = go (offsets r) i
+  where
+    setting : Known (r .n1) (r .n2)
+    setting = known _ _ set
 
-  pub none-within : Reached (r .n1) (r .n2) none
-  none-within = record { l = setting .across-some; m = setting .down-some }
-
-  pub moved-within : (x k : Beam) → Reached (r .n1) (r .n2) (moved r x k)
-  unfolding moved
-  moved-within x k = record { l = mod-lt _ (setting .across-some); m = mod-lt _ (setting .down-some) }
-
-  -- every beam of a report, and the place where there is none
-  pub beams-within : (i : ℕ) → Reached (r .n1) (r .n2) (getD (beams r) i none)
-  unfolding beams
-  beams-within i = go (offsets r) i
-    where
-      go : (ks : List Beam) (i : ℕ) → Reached (r .n1) (r .n2) (getD (map (moved r (base r)) ks) i none)
-      go [] i = none-within
-      go (k ∷ ks) zero = moved-within (base r) k
-      go (k ∷ ks) (suc i) = go ks i
+    go : (ks : List Beam) (i : ℕ) → Reached (r .n1) (r .n2) (getD (map (moved r (base r)) ks) i none)
+    go [] i = record { l = setting .across-some; m = setting .down-some }
+    go (k ∷ ks) zero = record { l = mod-lt _ (setting .across-some); m = mod-lt _ (setting .down-some) }
+    go (k ∷ ks) (suc i) = go ks i
 
 -- one number of each of four beams, by place
 pub four-at : (f : Beam → ℕ) (xs : List Beam) (i : ℕ) → i < 4 → getD (four f xs) i 0 ≡ f (getD xs i none)
@@ -90,13 +83,4 @@ module _ (r : Report) (h : InRange r) (two : r .n1 ≡ 1) where
 
   pub two-ports-said : (s : Sizes) {y : Beams} → y ≡ saidOf r s false (r .v) (none ∷ none ∷ none ∷ none ∷ [])
       → y ≡ saidAll r s
-  two-ports-said s p =
-      p
-      ∙ rw (
-        two-ports-whole,
-        two-ports-count,
-        two-ports-beam 0,
-        two-ports-beam 1,
-        two-ports-beam 2,
-        two-ports-beam 3,
-      )
+  two-ports-said s p = p ∙ simp (two-ports-whole, two-ports-count, two-ports-beam)

@@ -1,17 +1,20 @@
--- No step and no base is far: the code's arithmetic holds them.
+-- The row of k for i13; and no step and no base is far: the code's arithmetic holds them.
 use mathlib.Core.Path.{_≡_, ap₂, _∙_}
-use mathlib.Core.Bool.{Bool, true, _&&_, _||_}
-use mathlib.Core.List.{List, [], _∷_}
-use Prim.Native.Nat.{ℕ, zero, suc}
+use mathlib.Core.Bool.{Bool, true, false, _&&_, _||_}
+use Prim.Native.Nat.{ℕ, _+_, _/_, _%_, _≤_}
 use native.Mathlib.Omega.{arith}
-use lib.Dec.{T, eqb, leb, ltb, lit≤}
+use lib.Dec.{T, eqb, leb, ltb, eqb→eq, leb→le, lit≤}
 use lib.ListN.{getD}
+use borrow.Author.Tests.{le-ltb}
+use Rattle.ground.specs.Cases.{_⇒_∣_}
+use Rattle.ground.specs.Lists.{each, every}
 use Rattle.ground.proofs.Booleans.{cond-both}
-use Rattle.ground.proofs.Tests.{and-left, and-right, two-le}
+use Rattle.ground.proofs.Tests.{and-left, and-right, or-else, two-le, every-at}
 use Rattle.settings.specs.declared.Beam.{Beam}
 use Rattle.settings.specs.declared.Sizes.{Sizes}
-use Rattle.settings.specs.Settings.{isSetting, ports, twoPorts, sizesOf}
-use Rattle.settings.specs.Ranges.{beam, halfLength, kTwo, kThree, kRows}
+use Rattle.settings.specs.Settings.{settings, isSetting, ports, sizesOf}
+use Rattle.settings.specs.Ranges.{beam, halfLength, kTwo, kThree, kRows, i13Values}
+use Rattle.settings.proofs.Known.{above-two}
 use Rattle.report.specs.declared.Report.{Report}
 use Rattle.report.specs.Rules.{InRange}
 use Rattle.report.specs.Beams.{inModeTwo, isHalf, base, moved, Small}
@@ -24,45 +27,56 @@ isSmall x = leb (x .l) 255 && leb (x .m) 255
 pub is-small : (x : Beam) → T (isSmall x) → Small x
 is-small x t = let e = two-le (x .l) 255 (x .m) 255 t in record { l = e .0; m = e .1 }
 
--- every beam of a list
-pub record AllSmall (xs : List Beam) : Type 0 where
-  pub at : (i : ℕ) → Small (getD xs i (beam 0 0))
+-- ---- the row of k for i13, compared with its definition at every setting, rank and place
 
-areSmall : List Beam → Bool
-areSmall [] = true
-areSmall (x ∷ xs) = isSmall x && areSmall xs
+abbrev pub at : ℕ → ℕ → ℕ → Beam
+at n2 j last = ltb 1 n2 ⇒ (eqb j last ⇒ beam 2 0 ∣ beam (j % 2) (j / 2)) ∣ beam j 0
 
-small-at : (xs : List Beam) → T (areSmall xs) → (i : ℕ) → Small (getD xs i (beam 0 0))
-unfolding areSmall
-small-at [] t i = is-small (beam 0 0) tt
-small-at (x ∷ xs) t zero = is-small x (and-left (isSmall x) (areSmall xs) t)
-small-at (x ∷ xs) t (suc i) = small-at xs (and-right (isSmall x) (areSmall xs) t) i
+-- as the code gives it
+unfoldable pub rowAt : ℕ → ℕ → ℕ → ℕ → Beam
+rowAt n1 n2 v i = eqb v 2 ⇒ (eqb n1 n2 ⇒ at n2 i 4 ∣ at n2 i 3) ∣ at n2 (i + 1) 4
 
-all-small : (xs : List Beam) → T (areSmall xs) → AllSmall xs
-all-small xs t = record { at = small-at xs t }
+row : ℕ → ℕ → ℕ → ℕ → Beam
+row n1 n2 v i = getD (kRows n1 n2 v) i (beam 0 0)
 
-two-small : (n1 n2 : ℕ) → AllSmall (kTwo n1 n2)
-unfolding kTwo areSmall
-two-small n1 n2 =
-    cond-both AllSmall (ltb 1 n2 && ltb n2 n1)
-    (all-small _ tt)
-    (cond-both AllSmall (eqb n1 n2) (all-small _ tt) (cond-both AllSmall (eqb n1 2) (all-small _ tt) (all-small _ tt)))
+-- whether it is the definition's, and small, as i13 is
+right : ℕ → ℕ → ℕ → ℕ → Bool
+right n1 n2 v i =
+    leb i 3 && isSmall (row n1 n2 v i)
+    && eqb (rowAt n1 n2 v i .l) (row n1 n2 v i .l) && eqb (rowAt n1 n2 v i .m) (row n1 n2 v i .m)
 
-three-small : (n1 n2 : ℕ) → AllSmall (kThree n1 n2)
-unfolding kThree areSmall
-three-small n1 n2 =
-    cond-both AllSmall (eqb n2 1 && eqb n1 2)
-    (all-small _ tt)
-    (cond-both AllSmall (eqb n2 1 && eqb n1 4)
-    (all-small _ tt)
-    (cond-both AllSmall (eqb n2 1) (all-small _ tt) (cond-both AllSmall (eqb n1 2) (all-small _ tt) (all-small _ tt))))
+tried : ℕ → ℕ → ℕ → Bool
+tried n1 n2 v = ltb v 2 || halfLength (ports n1 n2) v || every (i13Values n1 n2 v) (right n1 n2 v)
 
-pub rows-small : (n1 n2 v : ℕ) → AllSmall (kRows n1 n2 v)
-unfolding kRows areSmall
-rows-small n1 n2 v =
-    cond-both AllSmall (halfLength (ports n1 n2) v || twoPorts n1 || eqb v 1 || leb 5 v)
-    (all-small _ tt)
-    (cond-both AllSmall (eqb v 2) (two-small n1 n2) (three-small n1 n2))
+pub record Row (r : Report) : Type 0 where
+  pub few : r .i13 ≤ 3
+  pub small : Small (getD (kRows (r .n1) (r .n2) (r .v)) (r .i13) (beam 0 0))
+  pub given : rowAt (r .n1) (r .n2) (r .v) (r .i13) ≡ getD (kRows (r .n1) (r .n2) (r .v)) (r .i13) (beam 0 0)
+
+pub row-right : (r : Report) → InRange r × (r .n1 ≡ 1 → ⊥) × (isHalf r ≡ false) × (2 ≤ r .v) × (r .v ≤ 4) → Row r
+unfolding row right tried rowAt settings each every halfLength kTwo kThree kRows i13Values
+row-right r p =
+    let n1 = r .n1 in
+    let n2 = r .n2 in
+    let v = r .v in
+    let i = r .i13 in
+    let ranks = above-two n1 n2 (λ a b. every 5 (tried a b)) tt (p .0 .setting) (p .1) in
+    let places =
+    or-else (ltb v 2 || halfLength (ports n1 n2) v) (every (i13Values n1 n2 v) (right n1 n2 v))
+    (λ z. rw (le-ltb v 2 (p .3), p .2) at z) (every-at 5 (tried n1 n2) ranks v (omega arith)) in
+    let t = every-at (i13Values n1 n2 v) (right n1 n2 v) places i (p .0 .i13) in
+    let l = eqb (rowAt n1 n2 v i .l) (row n1 n2 v i .l) in
+    let m = eqb (rowAt n1 n2 v i .m) (row n1 n2 v i .m) in
+    let lead = leb i 3 && isSmall (row n1 n2 v i) in
+    let first = and-left (lead && l) m t in
+    let both = and-left lead l first in
+    record {
+      few = leb→le i 3 (and-left (leb i 3) (isSmall (row n1 n2 v i)) both);
+      small = is-small (row n1 n2 v i) (and-right (leb i 3) (isSmall (row n1 n2 v i)) both);
+      given = ap₂ {C = Beam} beam (eqb→eq _ _ (and-right lead l first)) (eqb→eq _ _ (and-right (lead && l) m t));
+    }
+
+-- ---- the base
 
 pub base-small : (r : Report) → InRange r → Small (base r)
 unfolding base

@@ -5,10 +5,9 @@ use crate::rows;
 use settings::Beam;
 use settings::Sizes;
 ghost use mathlib.Core.Path.{_≡_};
-ghost use mathlib.Core.Bool.{true, false, cond};
+ghost use mathlib.Core.Bool.{true, false};
 ghost use mathlib.Core.List.{[], _∷_};
-ghost use Prim.Native.Nat.{_+_, _*_, _%_, _<_, _≤_};
-ghost use lib.Dec.{ltb};
+ghost use Prim.Native.Nat.{_+_, _*_, _%_, _≤_};
 ghost use lib.ListN.{length};
 ghost use Rattle.settings.specs.Settings.{isSetting, sizesOf};
 ghost use Rattle.settings.specs.Ranges.{beam};
@@ -74,13 +73,6 @@ fn moved_by(r: Report, s: Sizes, x: Beam, k: Beam) -> Beam
     }
 }
 
-// One step for N2 > 1, and another for N2 = 1.
-fn step_for(n2: u32, wide: Beam, line: Beam) -> Beam
-    ensures { λ k. ⌜ k ≡ cond (ltb 1 n2) wide line ⌝ }
-{
-    if 1 < n2 { wide } else { line }
-}
-
 // What is said of a report with so many of four beams.
 fn said(r: Report, s: Sizes, half: bool, count: u32, a: Beam, b: Beam, c: Beam, d: Beam) -> Beams
     ensures { λ y. ⌜ y ≡ saidOf r s half count (a ∷ b ∷ c ∷ d ∷ []) ⌝ }
@@ -99,20 +91,20 @@ fn said(r: Report, s: Sizes, half: bool, count: u32, a: Beam, b: Beam, c: Beam, 
     }
 }
 
-// v = 5 to 8: x is B before it is reduced, and a afterwards.
+// v = 5 to 8: x is B before it is reduced, and a afterwards. The third beam of v = 5 and 6 has the place of the fourth of
+// v = 7 and 8, and for N2 = 1 that of the third.
 fn choose_many(r: Report, s: Sizes, x: Beam, a: Beam) -> Beams
     requires { ⌜ InRange r × (s ≡ sizesOf (r .n1) (r .n2)) × (x ≡ base r) × (a ≡ moved r x (beam 0 0)) × (5 ≤ r .v) ⌝ }
     ensures { λ y. ⌜ y ≡ saidOf r s (isHalf r) (length (beams r)) (beams r) ⌝ }
 {
-    let both = Beam { l: 1, m: 1 };
-    let twice = Beam { l: 2, m: 0 };
     let b = moved_by(r, s, x, Beam { l: 1, m: 0 });
     if r.v <= 6 {
-        let c = moved_by(r, s, x, step_for(r.n2, both, twice));
+        let place = 2 + (r.n2 + 2) / 4;
+        let c = moved_by(r, s, x, rows::k_at(r.n2, place, 4));
         return said(r, s, false, 3, a, b, c, Beam { l: 0, m: 0 });
     }
-    let c = moved_by(r, s, x, step_for(r.n2, Beam { l: 0, m: 1 }, twice));
-    let d = moved_by(r, s, x, step_for(r.n2, both, Beam { l: 3, m: 0 }));
+    let c = moved_by(r, s, x, rows::k_at(r.n2, 2, 4));
+    let d = moved_by(r, s, x, rows::k_at(r.n2, 3, 4));
     said(r, s, false, 4, a, b, c, d)
 }
 

@@ -9,8 +9,8 @@ ghost use Rattle.settings.specs.Ranges.{rangesOf};
 ghost use Rattle.report.specs.Rules.{rule, ownOrder};
 ghost use Rattle.report.specs.Beams.{refusedWith};
 
-// The first of 1, 2, 4 and 6 to 9 that applies, or 0. Without ports the pair is no setting; without values of i2, where the
-// mode is one, the rank is none.
+// The first of 1, 2, 4 and 6 to 9 that applies, or 0. Without ports the pair is no setting; without values of i2 the mode
+// is none, or else the rank.
 pub fn refusal(r: Report, w: Ranges) -> u32
     requires { ⌜ w ≡ rangesOf (r .n1) (r .n2) (r .mode) (r .v) ⌝ }
     ensures { λ k. ⌜ k ≡ first (rule r) ownOrder ⌝ }
@@ -18,13 +18,13 @@ pub fn refusal(r: Report, w: Ranges) -> u32
     if w.sizes.ports == 0 {
         return 1;
     }
-    if r.mode == 0 {
-        return 2;
-    }
-    if 2 < r.mode {
-        return 2;
-    }
     if w.i2 == 0 {
+        if r.mode == 0 {
+            return 2;
+        }
+        if 2 < r.mode {
+            return 2;
+        }
         return 4;
     }
     if w.i11 <= r.i11 {

@@ -1,17 +1,13 @@
 -- What is known of every setting: tests computed over the list of them, and lifted to each.
 use mathlib.Core.Path.{_≡_, sym, subst}
-use mathlib.Core.Logic.{inl, inr}
-use mathlib.Core.Bool.{Bool, true, Bool·beq, _&&_, _||_}
+use mathlib.Core.Bool.{Bool, true, _&&_, _||_}
 use Prim.Native.Nat.{ℕ, _*_, _≤_}
-use native.Mathlib.Nat.{eq-or-lt-of-le}
 use native.Mathlib.Omega.{arith}
-use lib.Dec.{T, eqb, leb, ltb, eqb→eq, leb→le, ltb→lt, lit≤}
-use borrow.Author.Tests.{eq-eqb, ne-eqb, lt-ltb, le-ltb}
+use lib.Dec.{T, eqb, leb, ltb, eqb→eq, leb→le, ltb→lt}
 use Rattle.ground.specs.Lists.{each}
-use Rattle.ground.proofs.Booleans.{cond-both, same-truth}
 use Rattle.ground.proofs.Tests.{and-left, and-right, or-else}
 use Rattle.ground.proofs.Lists.{at-some}
-use Rattle.settings.specs.Settings.{settings, isSetting, ports, twoPorts, o1, o2, across, down, maskBytes}
+use Rattle.settings.specs.Settings.{settings, isSetting, ports, twoPorts, across, down, maskBytes}
 
 module _ (n1 n2 : ℕ) where
   -- a test that passes at every setting passes at this one
@@ -32,7 +28,6 @@ module _ (n1 n2 : ℕ) where
       or-else (twoPorts n1) (f n1 n2) (λ q. more (eqb→eq n1 1 q)) (at-setting (λ a b. twoPorts a || f a b) t e)
 
 pub record Known (n1 n2 : ℕ) : Type 0 where
-  pub n1-some : 1 ≤ n1
   pub n1-few : n1 ≤ 16
   pub n2-some : 1 ≤ n2
   pub n2-few : n2 ≤ 4
@@ -48,7 +43,6 @@ pub known : (n1 n2 : ℕ) → isSetting n1 n2 ≡ true → Known n1 n2
 unfolding settings each
 known n1 n2 e =
     record {
-      n1-some = leb→le 1 n1 (at-setting n1 n2 (λ n1 n2. leb 1 n1) tt e);
       n1-few = leb→le n1 16 (at-setting n1 n2 (λ n1 n2. leb n1 16) tt e);
       n2-some = leb→le 1 n2 (at-setting n1 n2 (λ n1 n2. leb 1 n2) tt e);
       n2-few = leb→le n2 4 (at-setting n1 n2 (λ n1 n2. leb n2 4) tt e);
@@ -64,12 +58,7 @@ known n1 n2 e =
 pub ports-few : (n1 n2 : ℕ) → isSetting n1 n2 ≡ true → ports n1 n2 ≤ 32
 ports-few n1 n2 e = omega (arith, known n1 n2 e .antennas)
 
--- a setting of two ports is told by its ports, and is (1,1)
-pub two-by-ports : (n1 n2 : ℕ) → isSetting n1 n2 ≡ true → eqb (ports n1 n2) 2 ≡ twoPorts n1
-unfolding settings each
-two-by-ports n1 n2 e =
-    same-truth _ _ (at-setting n1 n2 (λ a b. Bool·beq (eqb (ports a b) 2) (twoPorts a)) tt e)
-
+-- a setting of two ports is (1,1)
 pub one-by-one : (n1 n2 : ℕ) → isSetting n1 n2 ≡ true → n1 ≡ 1 → n2 ≡ 1
 unfolding settings each
 one-by-one n1 n2 e one =
@@ -86,16 +75,3 @@ mask-bits n1 n2 e more =
 pub mask-few : (n1 n2 : ℕ) → isSetting n1 n2 ≡ true → maskBytes n1 n2 ≤ 32
 unfolding settings each maskBytes
 mask-few n1 n2 e = leb→le (maskBytes n1 n2) 32 (at-setting n1 n2 (λ a b. leb (maskBytes a b) 32) tt e)
-
-pub o1-few : (n1 : ℕ) → o1 n1 ≤ 4
-o1-few n1 = cond-both (λ o. o ≤ 4) (twoPorts n1) (lit≤ tt) (lit≤ tt)
-
-pub o2-few : (n2 : ℕ) → o2 n2 ≤ 4
-o2-few n2 = cond-both (λ o. o ≤ 4) (ltb 1 n2) (lit≤ tt) (lit≤ tt)
-
--- both directions count their beams alike
-pub down-across : (n : ℕ) → 1 ≤ n → down n ≡ across n
-down-across n h = elim (eq-or-lt-of-le h) [
-  | inl e ↦ rw (le-ltb 1 n (omega arith), eq-eqb n 1 (sym e))
-  | inr l ↦ rw (lt-ltb 1 n l, ne-eqb n 1 (λ q. omega arith))
-]

@@ -1,19 +1,18 @@
 -- Which settings, modes and ranks have ranges, and how large these are.
-use mathlib.Core.Path.{_≡_, sym, subst}
+use mathlib.Core.Path.{_≡_, refl, sym, subst}
 use mathlib.Core.Logic.{inl, inr}
-use mathlib.Core.Bool.{Bool, true, cond, not, _&&_, _||_}
+use mathlib.Core.Bool.{Bool, true, false, cond, _&&_, _||_}
 use Prim.Native.Nat.{ℕ, _/_, _≤_}
+use native.Mathlib.Nat.{eq-or-lt-of-le}
 use native.Mathlib.Omega.{arith}
-use lib.Dec.{T, eqb, leb, ltb, eqb→eq, leb→le, lit≤}
-use borrow.Author.Tests.{ne-eqb, le-ltb, leb-true, eqb-false, ltb-false, not-true}
-use Rattle.ground.specs.Lists.{each, every}
-use Rattle.ground.proofs.Booleans.{cond-both, or-false, and-true-left, and-true-right}
-use Rattle.ground.proofs.Tests.{or-cases, every-at}
-use Rattle.settings.specs.Settings.{settings, isSetting, ports, twoPorts, across, down}
-use Rattle.settings.specs.Ranges.{isMode, isRank, isRanked, modeTwo, halfLength}
-use Rattle.settings.specs.Ranges.{halvesI11, i11Values, halvesI12, i12Values, i13Values, i2Values}
-use Rattle.settings.proofs.Known.{at-setting}
-use Rattle.settings.proofs.Rows.{rows-few}
+use lib.Dec.{T, eqb, ltb, eqb→eq, lit≤}
+use borrow.Author.Tests.{eq-eqb, ne-eqb, le-ltb, eqb-false, ltb-false, not-true}
+use Rattle.ground.proofs.Booleans.{is-false, cond-both, cond-each, or-false, and-true-left, and-true-right}
+use Rattle.ground.proofs.Tests.{or-cases}
+use Rattle.settings.specs.declared.Sizes.{Sizes}
+use Rattle.settings.specs.Settings.{isSetting, ports, across, down, sizesOf}
+use Rattle.settings.specs.Ranges.{isMode, isRank, isRanked, modeTwo}
+use Rattle.settings.specs.Ranges.{halvesI11, i11Values, halvesI12, i12Values, i2Values}
 
 -- ---- what the tests say
 
@@ -37,79 +36,50 @@ module _ (p v : ℕ) where
   pub of-rank : Rank p v → isRank p v ≡ true
   of-rank r = rw (ne-eqb v 0 (λ e. omega (arith, r .v-some)), le-ltb 8 v (r .v-few), le-ltb p v (r .v-fits))
 
-pub mode-few : (mode : ℕ) → isMode mode ≡ true → mode ≤ 2
-mode-few mode e = elim (or-cases (eqb mode 1) (eqb mode 2) (subst T (sym e) tt)) [
-  | inl q ↦ omega (arith, eqb→eq mode 1 q)
-  | inr q ↦ omega (arith, eqb→eq mode 2 q)
-]
+-- mode 1 or 2
+module _ (mode : ℕ) where
+  pub mode-of : isMode mode ≡ true → (1 ≤ mode) × (mode ≤ 2)
+  mode-of e = elim (or-cases (eqb mode 1) (eqb mode 2) (subst T (sym e) tt)) [
+    | inl q ↦ let e = eqb→eq mode 1 q in (omega arith, omega arith)
+    | inr q ↦ let e = eqb→eq mode 2 q in (omega arith, omega arith)
+  ]
 
-pub record Ranked (n1 n2 mode v : ℕ) : Type 0 where
-  pub setting : isSetting n1 n2 ≡ true
-  pub known-mode : isMode mode ≡ true
-  pub rank : Rank (ports n1 n2) v
+  pub of-mode : 1 ≤ mode → mode ≤ 2 → isMode mode ≡ true
+  of-mode some few = elim (eq-or-lt-of-le few) [
+    | inl e ↦ rw (ne-eqb mode 1 (λ q. omega arith), eq-eqb mode 2 e)
+    | inr l ↦ rw (eq-eqb mode 1 (omega arith))
+  ]
 
-module _ (n1 n2 mode v : ℕ) where
-  pub ranked-of : isRanked n1 n2 mode v ≡ true → Ranked n1 n2 mode v
-  ranked-of e =
-      let s = isSetting n1 n2 in
-      let m = isMode mode in
-      let k = isRank (ports n1 n2) v in
-      let both = and-true-left (s && m) k e in
-      record {
-        setting = and-true-left s m both;
-        known-mode = and-true-right s m both;
-        rank = rank-of (ports n1 n2) v (and-true-right (s && m) k e);
-      }
+pub numbers : (p mode v : ℕ) → (isMode mode && isRank p v) ≡ true → (1 ≤ mode) × (mode ≤ 2) × Rank p v
+numbers p mode v e =
+    let m = mode-of mode (and-true-left (isMode mode) (isRank p v) e) in
+    (m .0, m .1, rank-of p v (and-true-right (isMode mode) (isRank p v) e))
 
-  pub of-ranked : Ranked n1 n2 mode v → isRanked n1 n2 mode v ≡ true
-  of-ranked r = rw (r .setting, r .known-mode) (of-rank (ports n1 n2) v (r .rank))
+-- ---- the ports tell whether the pair is a setting
 
-  -- a test that passes at every setting, at modes up to 2 and up to eight layers passes here
-  pub at-ranked : (f : ℕ → ℕ → ℕ → ℕ → Bool)
-      → T (each (λ s. every 3 (λ mode. every 9 (f (s .0) (s .1) mode))) settings)
-      → isRanked n1 n2 mode v ≡ true → T (f n1 n2 mode v)
-  at-ranked f t e =
-      let r = ranked-of e in
-      let modes = at-setting n1 n2 (λ a b. every 3 (λ mode. every 9 (f a b mode))) t (r .setting) in
-      let ranks = every-at 3 (λ mode. every 9 (f n1 n2 mode)) modes mode (omega (arith, mode-few mode (r .known-mode))) in
-      every-at 9 (f n1 n2 mode) ranks v (omega (arith, r .rank .v-few))
+pub sizes-ports : (n1 n2 : ℕ) → sizesOf n1 n2 .ports ≡ cond (isSetting n1 n2) (ports n1 n2) 0
+sizes-ports n1 n2 = cond-each (λ (s : Sizes). s .ports) (isSetting n1 n2) refl refl
 
--- mode 2 acts on two layers at most
-pub mode-two-few : (n1 mode v : ℕ) → modeTwo n1 mode v ≡ true → v ≤ 2
-unfolding modeTwo
-mode-two-few n1 mode v e =
-    let both = and-true-left (eqb mode 2 && leb v 2) (not (twoPorts n1)) e in
-    leb-true v 2 (and-true-right (eqb mode 2) (leb v 2) both)
+pub ranked-by-ports : (n1 n2 mode v : ℕ)
+    → (isMode mode && isRank (sizesOf n1 n2 .ports) v) ≡ isRanked n1 n2 mode v
+ranked-by-ports n1 n2 mode v = rw sizes-ports (go (isSetting n1 n2))
+  where
+    go : (b : Bool) → (isMode mode && isRank (cond b (ports n1 n2) 0) v) ≡ (b && isMode mode && isRank (ports n1 n2) v)
+    go true = refl
+    go false = sym (is-false (isMode mode && isRank 0 v) (λ e. omega (arith, numbers 0 mode v e)))
 
 -- ---- how many values each index has
 
 halved-few : (b : Bool) (x : ℕ) → cond b (x / 2) x ≤ x
 halved-few b x = cond-both (λ n. n ≤ x) b (omega arith) (omega arith)
 
-pub i2-few : (n1 mode v : ℕ) → i2Values n1 mode v ≤ 16
+pub i2-within : (n1 mode v : ℕ) → (1 ≤ i2Values n1 mode v) × (i2Values n1 mode v ≤ 16)
 unfolding i2Values
-i2-few n1 mode v =
-    let few : ℕ → Type 0 = λ n. n ≤ 16 in
-    cond-both few (modeTwo n1 mode v)
-    (cond-both few (eqb v 1) (lit≤ tt) (lit≤ tt))
-    (cond-both few (eqb v 1) (lit≤ tt) (lit≤ tt))
-
-pub i2-some : (n1 mode v : ℕ) → 1 ≤ i2Values n1 mode v
-unfolding i2Values
-i2-some n1 mode v =
-    let some : ℕ → Type 0 = λ n. 1 ≤ n in
-    cond-both some (modeTwo n1 mode v)
-    (cond-both some (eqb v 1) (lit≤ tt) (lit≤ tt))
-    (cond-both some (eqb v 1) (lit≤ tt) (lit≤ tt))
-
-module _ (n1 n2 v : ℕ) where
-  pub i13-few : i13Values n1 n2 v ≤ 4
-  unfolding i13Values
-  i13-few = cond-both (λ n. n ≤ 4) (halfLength (ports n1 n2) v) (lit≤ tt) (rows-few n1 n2 v .1)
-
-  pub i13-some : 1 ≤ i13Values n1 n2 v
-  unfolding i13Values
-  i13-some = cond-both (λ n. 1 ≤ n) (halfLength (ports n1 n2) v) (lit≤ tt) (rows-few n1 n2 v .0)
+i2-within n1 mode v =
+    let within : ℕ → Type 0 = λ n. (1 ≤ n) × (n ≤ 16) in
+    cond-both within (modeTwo n1 mode v)
+    (cond-both within (eqb v 1) (lit≤ tt, lit≤ tt) (lit≤ tt, lit≤ tt))
+    (cond-both within (eqb v 1) (lit≤ tt, lit≤ tt) (lit≤ tt, lit≤ tt))
 
 module _ (n1 n2 mode v : ℕ) where
   pub i11-few : i11Values n1 n2 mode v ≤ across n1
@@ -119,13 +89,3 @@ module _ (n1 n2 mode v : ℕ) where
   pub i12-few : i12Values n1 n2 mode v ≤ down n2
   unfolding i12Values
   i12-few = halved-few (halvesI12 n1 n2 mode v) (down n2)
-
-  pub i11-some : isRanked n1 n2 mode v ≡ true → 1 ≤ i11Values n1 n2 mode v
-  unfolding i11Values halvesI11 modeTwo halfLength settings each every
-  i11-some e =
-      leb→le 1 (i11Values n1 n2 mode v) (at-ranked n1 n2 mode v (λ a b m k. leb 1 (i11Values a b m k)) tt e)
-
-  pub i12-some : isRanked n1 n2 mode v ≡ true → 1 ≤ i12Values n1 n2 mode v
-  unfolding i12Values halvesI12 modeTwo settings each every
-  i12-some e =
-      leb→le 1 (i12Values n1 n2 mode v) (at-ranked n1 n2 mode v (λ a b m k. leb 1 (i12Values a b m k)) tt e)

@@ -124,13 +124,16 @@ pub fn ranges_of(n1: u32, n2: u32, mode: u32, v: u32) -> Ranges
         };
     }
     if v <= 2 {
-        return values::one_or_two(n1, n2, mode, v, s);
+        if values::is_mode_two(n1, mode, v) {
+            return values::in_mode_two(v, s);
+        }
+        return values::in_mode_one(v, s);
     }
     if v <= 4 {
-        return values::three_or_four(n1, n2, mode, v, s);
+        return values::three_or_four(s);
     }
     if v <= 6 {
         return values::plain(s, 1);
     }
-    values::seven_or_eight(n1, n2, mode, v, s)
+    values::seven_or_eight(n1, n2, s)
 }

@@ -1,9 +1,10 @@
 // How many values each index has.
 ghost use mathlib.Core.Path.{_≡_};
-ghost use mathlib.Core.Bool.{true, _&&_};
-ghost use Prim.Native.Nat.{_≤_};
-ghost use Rattle.settings.specs.Settings.{sizesOf};
-ghost use Rattle.settings.specs.Ranges.{isMode, isRank, isRanked, modeTwo, halfLength, rangesOf};
+ghost use mathlib.Core.Bool.{not, _&&_};
+ghost use Prim.Native.Nat.{_-_, _/_};
+ghost use lib.Dec.{eqb, leb, ltb};
+ghost use Rattle.ground.specs.Cases.{_⇒_∣_};
+ghost use Rattle.settings.specs.Ranges.{isMode, isRank, modeTwo, halfLength};
 use crate::Ranges;
 use crate::Sizes;
 
@@ -23,7 +24,10 @@ pub fn is_ranked(p: u32, mode: u32, v: u32) -> bool
     if 8 < v {
         return false;
     }
-    v <= p
+    if p < v {
+        return false;
+    }
+    true
 }
 
 // Mode 2 acts on one and two layers, and not on two ports.
@@ -65,14 +69,28 @@ pub fn plain(s: Sizes, i13: u32) -> Ranges
     }
 }
 
-// Where mode 2 acts. One beam down is not halved.
-fn in_mode_two(n1: u32, n2: u32, mode: u32, v: u32, s: Sizes) -> Ranges
-    requires { ⌜ (s ≡ sizesOf n1 n2) × (isRanked n1 n2 mode v ≡ true) × (modeTwo n1 mode v ≡ true) ⌝ }
-    ensures { λ a. ⌜ a ≡ rangesOf n1 n2 mode v ⌝ }
+// How many values i13 has at two layers of p ports.
+fn second_beams(p: u32) -> u32
+    ensures { λ x. ⌜ x ≡ (ltb p 8 ⇒ p / 2 ∣ 4) ⌝ }
 {
-    let p = s.ports;
+    if p < 8 {
+        return p / 2;
+    }
+    4
+}
+
+// One and two layers where mode 2 acts. One beam down is not halved.
+pub fn in_mode_two(v: u32, s: Sizes) -> Ranges
+    ensures { λ a. ⌜ a ≡ record {
+      sizes = s;
+      i11 = s .across / 2;
+      i12 = s .down - s .down / 2;
+      i13 = eqb v 1 ⇒ 1 ∣ ltb (s .ports) 8 ⇒ s .ports / 2 ∣ 4;
+      i2 = eqb v 1 ⇒ 16 ∣ 8;
+    } ⌝ }
+{
     let i11 = s.across / 2;
-    let i12 = (s.down + 1) / 2;
+    let i12 = s.down - s.down / 2;
     if v == 1 {
         return Ranges {
             sizes: s,
@@ -82,33 +100,25 @@ fn in_mode_two(n1: u32, n2: u32, mode: u32, v: u32, s: Sizes) -> Ranges
             i2: 16,
         };
     }
-    if p == 4 {
-        return Ranges {
-            sizes: s,
-            i11: i11,
-            i12: i12,
-            i13: 2,
-            i2: 8,
-        };
-    }
     Ranges {
         sizes: s,
         i11: i11,
         i12: i12,
-        i13: 4,
+        i13: second_beams(s.ports),
         i2: 8,
     }
 }
 
-// One and two layers.
-pub fn one_or_two(n1: u32, n2: u32, mode: u32, v: u32, s: Sizes) -> Ranges
-    requires { ⌜ (s ≡ sizesOf n1 n2) × (isRanked n1 n2 mode v ≡ true) × (v ≤ 2) ⌝ }
-    ensures { λ a. ⌜ a ≡ rangesOf n1 n2 mode v ⌝ }
+// One and two layers where it does not act.
+pub fn in_mode_one(v: u32, s: Sizes) -> Ranges
+    ensures { λ a. ⌜ a ≡ record {
+      sizes = s;
+      i11 = s .across;
+      i12 = s .down;
+      i13 = eqb v 1 ⇒ 1 ∣ ltb (s .ports) 8 ⇒ s .ports / 2 ∣ 4;
+      i2 = eqb v 1 ⇒ 4 ∣ 2;
+    } ⌝ }
 {
-    let p = s.ports;
-    if is_mode_two(n1, mode, v) {
-        return in_mode_two(n1, n2, mode, v, s);
-    }
     if v == 1 {
         return Ranges {
             sizes: s,
@@ -118,16 +128,19 @@ pub fn one_or_two(n1: u32, n2: u32, mode: u32, v: u32, s: Sizes) -> Ranges
             i2: 4,
         };
     }
-    if p < 8 {
-        return plain(s, p / 2);
-    }
-    plain(s, 4)
+    plain(s, second_beams(s.ports))
 }
 
-// Three and four layers. Beams are of half length from 16 ports on.
-pub fn three_or_four(n1: u32, n2: u32, mode: u32, v: u32, s: Sizes) -> Ranges
-    requires { ⌜ (s ≡ sizesOf n1 n2) × (isRanked n1 n2 mode v ≡ true) × (3 ≤ v) × (v ≤ 4) ⌝ }
-    ensures { λ a. ⌜ a ≡ rangesOf n1 n2 mode v ⌝ }
+// Three and four layers. Beams are of half length from 16 ports on. Below, p / 3 gives four ports one row of k, and twelve
+// ports four.
+pub fn three_or_four(s: Sizes) -> Ranges
+    ensures { λ a. ⌜ a ≡ record {
+      sizes = s;
+      i11 = leb 16 (s .ports) ⇒ s .across / 2 ∣ s .across;
+      i12 = s .down;
+      i13 = leb 16 (s .ports) ⇒ 4 ∣ eqb (s .ports) 8 ⇒ 3 ∣ s .ports / 3;
+      i2 = 2;
+    } ⌝ }
 {
     let p = s.ports;
     if 16 <= p {
@@ -142,18 +155,19 @@ pub fn three_or_four(n1: u32, n2: u32, mode: u32, v: u32, s: Sizes) -> Ranges
     if p == 8 {
         return plain(s, 3);
     }
-    if p == 4 {
-        return plain(s, 1);
-    }
-    plain(s, 4)
+    plain(s, p / 3)
 }
 
 // Seven and eight layers. With N2 other than 2, (4,1) alone has eight ports.
-pub fn seven_or_eight(n1: u32, n2: u32, mode: u32, v: u32, s: Sizes) -> Ranges
-    requires { ⌜ (s ≡ sizesOf n1 n2) × (isRanked n1 n2 mode v ≡ true) × (7 ≤ v) ⌝ }
-    ensures { λ a. ⌜ a ≡ rangesOf n1 n2 mode v ⌝ }
+pub fn seven_or_eight(n1: u32, n2: u32, s: Sizes) -> Ranges
+    ensures { λ a. ⌜ a ≡ record {
+      sizes = s;
+      i11 = not (eqb n2 2) && eqb (s .ports) 8 ⇒ s .across / 2 ∣ s .across;
+      i12 = eqb n2 2 && ltb 2 n1 ⇒ s .down / 2 ∣ s .down;
+      i13 = 1;
+      i2 = 2;
+    } ⌝ }
 {
-    let p = s.ports;
     if n2 == 2 {
         if 2 < n1 {
             return Ranges {
@@ -166,7 +180,7 @@ pub fn seven_or_eight(n1: u32, n2: u32, mode: u32, v: u32, s: Sizes) -> Ranges
         }
         return plain(s, 1);
     }
-    if p == 8 {
+    if s.ports == 8 {
         return Ranges {
             sizes: s,
             i11: s.across / 2,

@@ -1,12 +1,13 @@
 -- `ranges_of` meets its contract: where the setting, the mode and the rank pass, it gives the values of each index.
-use mathlib.Core.Path.{_≡_, refl, sym, ap, _∙_}
-use mathlib.Core.Bool.{true, _&&_}
+use mathlib.Core.Path.{_≡_, sym, ap, _∙_}
+use mathlib.Core.Bool.{_&&_}
 use borrow.Author.Needs.{needs}
-use borrow.Author.Tests.{not-false, not-true}
+use borrow.Author.Tests.{le-leb, lt-leb, not-false, not-true}
+use Rattle.settings.specs.declared.Ranges.{Ranges}
 use Rattle.settings.specs.declared.Sizes.{Sizes}
-use Rattle.settings.specs.Ranges.{isMode, isRank, isRanked}
-use Rattle.settings.proofs.Given.{ranked-by-ports, ranges-without}
-use Rattle.settings.proofs.ByRank.{five-or-six}
+use Rattle.settings.specs.Ranges.{isMode, isRank, isRanked, rangesOf}
+use Rattle.settings.proofs.Ranked.{ranked-by-ports}
+use Rattle.settings.proofs.ByRank.{given, byRank, by-rank}
 use Rattle.settings.proofs.ranges_of.Statement.{statement}
 use Rattle.settings.proofs.ranges_of.Tie as tie
 
@@ -20,48 +21,54 @@ tested c =
     ∙ ap (λ (s : Sizes). isMode (a .mode) && isRank (s .ports) (a .v)) (sym (c .before .sizes-of .ensures))
     ∙ sym (c .is-ranked .ensures)
 
-ranked : (c : tie.Else1) → let a = c .before .before .before .args in isRanked (a .n1) (a .n2) (a .mode) (a .v) ≡ true
-ranked c = tested (c .before) ∙ not-false _ (c .if1 .left)
+right : (c : tie.Else1) {x : Ranges}
+    → let z = c .before .before in
+    let a = z .before .args in
+    x ≡ given (z .sizes-of .result) (byRank (z .sizes-of .result) (a .n1) (a .n2) (a .mode) (a .v))
+    → x ≡ rangesOf (a .n1) (a .n2) (a .mode) (a .v)
+right c e = e ∙ by-rank _ _ _ _ (tested (c .before) ∙ not-false _ (c .if1 .left)) (c .before .before .sizes-of .ensures)
 
 returns : tie.Need-returns
-returns c =
-    let z = c .before .before in
-    let a = z .before .args in
-    ranges-without (a .n1) (a .n2) (a .mode) (a .v) (z .sizes-of .ensures) refl
-    (tested (c .before) ∙ not-true _ (c .if1 .taken))
-
-one-or-two-requires : tie.Need-one-or-two-requires
-one-or-two-requires c κs =
-    let e = c .before in
-    (e .before .before .sizes-of .ensures, ranked e, c .if2 .taken)
+returns c = rw (c .before .before .sizes-of .ensures, tested (c .before) ∙ not-true _ (c .if1 .taken))
 
 returns-2 : tie.Need-returns-2
-returns-2 c = c .one-or-two .ensures
-
-three-or-four-requires : tie.Need-three-or-four-requires
-three-or-four-requires c κs =
-    let e = c .before .before in
-    (e .before .before .sizes-of .ensures, ranked e, c .before .if2 .left, c .if3 .taken)
+unfolding byRank
+returns-2 c =
+    let m = c .before in
+    let t = m .before .before in
+    let acts = sym (m .before .is-mode-two .ensures) ∙ m .if3 .taken in
+    right (t .before) (rw (c .in-mode-two .ensures, le-leb _ 2 (t .if2 .taken), acts))
 
 returns-3 : tie.Need-returns-3
-returns-3 c = c .three-or-four .ensures
+unfolding byRank
+returns-3 c =
+    let m = c .before in
+    let t = m .before .before in
+    let idle = sym (m .before .is-mode-two .ensures) ∙ m .if3 .left in
+    right (t .before) (rw (c .in-mode-one .ensures, le-leb _ 2 (t .if2 .taken), idle))
 
 returns-4 : tie.Need-returns-4
+unfolding byRank
 returns-4 c =
-    let l = c .before in
-    let e = l .before .before .before in
-    let z = e .before .before in
-    let a = z .before .args in
-    c .plain .ensures
-    ∙ five-or-six (a .n1) (a .n2) (a .mode) (a .v) (ranked e) (z .sizes-of .ensures) (l .before .if3 .left) (l .if4 .taken)
-
-seven-or-eight-requires : tie.Need-seven-or-eight-requires
-seven-or-eight-requires c κs =
-    let e = c .before .before .before in
-    (e .before .before .sizes-of .ensures, ranked e, c .if4 .left)
+    let t = c .before in
+    let l = t .before in
+    right (l .before) (rw (c .three-or-four .ensures, lt-leb _ 2 (l .if2 .left), le-leb _ 4 (t .if4 .taken)))
 
 returns-5 : tie.Need-returns-5
-returns-5 c = c .seven-or-eight .ensures
+unfolding byRank
+returns-5 c =
+    let t = c .before in
+    let l = t .before .before in
+    let four = lt-leb _ 4 (t .before .if4 .left) in
+    right (l .before) (rw (c .plain .ensures, lt-leb _ 2 (l .if2 .left), four, le-leb _ 6 (t .if5 .taken)))
+
+returns-6 : tie.Need-returns-6
+unfolding byRank
+returns-6 c =
+    let m = c .before in
+    let l = m .before .before in
+    let four = lt-leb _ 4 (m .before .if4 .left) in
+    right (l .before) (rw (c .seven-or-eight .ensures, lt-leb _ 2 (l .if2 .left), four, lt-leb _ 6 (m .if5 .left)))
 
 pub ranges-of-spec : {M : Type 1} → statement M
 ranges-of-spec =
@@ -70,11 +77,14 @@ ranges-of-spec =
     (λ c κs. search needs)
     (λ c κs. search needs)
     returns
-    one-or-two-requires
+    (λ c κs. search needs)
+    (λ c κs. search needs)
     returns-2
-    three-or-four-requires
+    (λ c κs. search needs)
     returns-3
     (λ c κs. search needs)
     returns-4
-    seven-or-eight-requires
-    returns-5)
+    (λ c κs. search needs)
+    returns-5
+    (λ c κs. search needs)
+    returns-6)

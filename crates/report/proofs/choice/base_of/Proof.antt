@@ -1,12 +1,14 @@
 -- `choice::base_of` meets its contract: its four ways out are those of the definition, and the numbers of a report in
 -- range are small.
 use mathlib.Core.Path.{_≡_, sym, _∙_}
-use mathlib.Core.Bool.{true, false}
-use Prim.Native.Nat.{_/_, _<_}
+use mathlib.Core.Bool.{false, cond}
+use Prim.Native.Nat.{_+_, _*_, _/_, _%_, _<_}
 use native.Mathlib.Omega.{arith}
+use lib.Dec.{ltb}
 use borrow.Author.Needs.{needs}
 use borrow.Author.Tests.{lt-ltb, le-ltb, not-false, not-true}
-use Rattle.report.specs.Beams.{inModeTwo, isHalf, base}
+use Rattle.settings.specs.Ranges.{beam}
+use Rattle.report.specs.Beams.{isHalf, base}
 use Rattle.report.proofs.InRange.{i11-small, i12-small, q-small, g-some}
 use Rattle.report.proofs.choice.base_of.Statement.{statement}
 use Rattle.report.proofs.choice.base_of.Tie as tie
@@ -21,8 +23,16 @@ startG c = start₁ (c .before .before .before)
 whole : (c : tie.Else1) → isHalf (start₁ c .args .r) ≡ false
 whole c = sym (start₁ c .pre .1) ∙ c .if1 .left
 
-mode-two : (c : tie.Else2) → inModeTwo (start₁ (c .before .before) .args .r) ≡ true
-mode-two c = sym (c .before .is-mode-two .ensures) ∙ not-false _ (c .if2 .left)
+-- where mode 2 acts
+acts : (c : tie.After-g-of)
+    → let r = startG c .args .r in
+    let q = r .i2 / c .g-of .result in
+    base r ≡ cond (ltb 1 (r .n2)) (beam (2 * r .i11 + q % 2) (2 * r .i12 + q / 2)) (beam (2 * r .i11 + q) 0)
+unfolding base
+acts c =
+    let e = c .before in
+    let two = sym (e .before .is-mode-two .ensures) ∙ not-false _ (e .if2 .left) in
+    rw (whole (e .before .before), two, c .g-of .ensures)
 
 -- what mode 2 reckons with is small
 small : (c : tie.After-g-of)
@@ -46,26 +56,10 @@ div-q c =
     rw (g .g-of .ensures) (g-some (startG g .args .r .v))
 
 returns-3 : tie.Need-returns-3
-unfolding base
-returns-3 c =
-    let g = c .before .before .before .before in
-    rw (
-      whole (g .before .before .before),
-      mode-two (g .before),
-      lt-ltb 1 _ (c .before .if3 .taken),
-      g .g-of .ensures,
-    )
+returns-3 c = rw (acts (c .before .before .before .before), lt-ltb 1 _ (c .before .if3 .taken))
 
 returns-4 : tie.Need-returns-4
-unfolding base
-returns-4 c =
-    let g = c .before .before .before in
-    rw (
-      whole (g .before .before .before),
-      mode-two (g .before),
-      le-ltb 1 _ (c .if3 .left),
-      g .g-of .ensures,
-    )
+returns-4 c = rw (acts (c .before .before .before), le-ltb 1 _ (c .if3 .left))
 
 pub base-of-spec : {M : Type 1} → statement M
 base-of-spec =

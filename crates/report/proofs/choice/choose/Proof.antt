@@ -1,15 +1,16 @@
 -- `choice::choose` meets its contract: its beams are those of the offsets, and two ports have none but (0,0).
 use mathlib.Core.Path.{_≡_, refl, sym, ap, _∙_}
 use mathlib.Core.Bool.{false}
-use Prim.Native.Nat.{ℕ, _≤_}
+use Prim.Native.Nat.{_≤_}
 use native.Mathlib.Omega.{arith}
 use borrow.Author.Needs.{needs}
+use borrow.Author.Tests.{eq-eqb, ne-eqb}
+use Rattle.settings.specs.declared.Sizes.{Sizes}
 use Rattle.settings.specs.Ranges.{beam, halfLength}
 use Rattle.report.specs.Beams.{isHalf, base, moved, Small}
 use Rattle.report.proofs.InRange.{v-some, i11-small, i12-small}
-use Rattle.report.proofs.Sized.{sizes-ports}
-use Rattle.report.proofs.Steps.{is-small, rows-small, base-small, base-movable, moved-from-base}
-use Rattle.report.proofs.Offsets.{said-one, said-half, said-two}
+use Rattle.report.proofs.Steps.{is-small, row-right, base-small, base-movable, moved-from-base}
+use Rattle.report.proofs.Offsets.{whole-few, said-single, said-two}
 use Rattle.report.proofs.Reached.{two-ports-said}
 use Rattle.report.proofs.choice.choose.Statement.{statement}
 use Rattle.report.proofs.choice.choose.Tie as tie
@@ -27,8 +28,8 @@ moved₃ c = c .before .before .before .before
 half : (c : tie.After-is-half-length) → c .is-half-length .result ≡ isHalf (start₁ (c .before) .args .r)
 half c =
     let s = start₁ (c .before) in
-    let p = sizes-ports _ _ (s .pre .1) (s .pre .0 .setting) in
-    c .is-half-length .ensures ∙ ap (λ (p : ℕ). halfLength p (s .args .r .v)) p
+    c .is-half-length .ensures ∙ ap (λ (z : Sizes). halfLength (z .ports) (s .args .r .v)) (s .pre .1)
+    ∙ rw (s .pre .0 .setting)
 
 -- the first beam
 first : (c : tie.After-moved-by) → let r = startB (c .before) .args .r in c .moved-by .result ≡ moved r (base r) (beam 0 0)
@@ -57,14 +58,15 @@ moved-by-requires c κs =
 returns-3 : tie.Need-returns-3
 returns-3 c =
     let a = c .before .before .before .before .before in
-    said-one _ _ (first a) (c .said2 .ensures) (c .before .if3 .taken)
+    let whole = whole-few (startB (a .before) .args .r) (omega arith) in
+    said-single _ _ (first a) (c .said2 .ensures) whole (rw (eq-eqb _ 1 (c .before .if3 .taken))) (omega arith)
 
 returns-4 : tie.Need-returns-4
 returns-4 c =
     let more = c .before .before in
     let a = moved₃ more in
     let e = sym (half (a .before .before)) ∙ c .before .if4 .taken in
-    said-half _ _ (first a) (c .said3 .ensures) e (more .if3 .left) (few more)
+    said-single _ _ (first a) (c .said3 .ensures) e (rw (ne-eqb _ 1 (more .if3 .left))) (few more)
 
 k-row-requires : tie.Need-k-row-requires
 k-row-requires c κs =
@@ -90,7 +92,7 @@ moved-by-requires-2 c κs =
       b .before .before .if1 .left,
       s .pre .1,
       record { l = omega (arith, small .l, i11-small r h); m = omega (arith, small .m, i12-small r h) },
-      rw (c .k-row .ensures) (rows-small _ _ _ .at (r .i13)),
+      rw (c .k-row .ensures) (row-right r (k-row-requires (c .before) (c .k-row .lifetimes)) .small),
     )
 
 -- the second beam is B, as it was before it was reduced, moved by the row of k
