@@ -1,7 +1,7 @@
 -- The first of a list of numbers whose test holds; what it means that none does; parts of a list.
 use mathlib.Core.Path.{_≡_, refl, ap, _∙_}
 use mathlib.Core.Logic.{_≢_, inl, inr}
-use mathlib.Core.Bool.{Bool, true, false, _&&_}
+use mathlib.Core.Bool.{Bool, true, false, cond, _&&_}
 use mathlib.Core.List.{List, [], _∷_, _++_, append-nil}
 use Prim.Native.Nat.{ℕ}
 use native.Mathlib.Omega.{arith}
@@ -59,6 +59,25 @@ module _ (test : ℕ → Bool) where
   first-stop (x ∷ xs) ys h = elim (truth (test x)) [
     | inl f ↦ rw f
     | inr f ↦ rw f (first-stop xs ys (rw f at h))
+  ]
+
+  -- a number whose test does not hold may be put in anywhere
+  pub first-insert : (xs ys : List ℕ) (k : ℕ) → test k ≡ false → first test (xs ++ (k ∷ ys)) ≡ first test (xs ++ ys)
+  unfolding first
+  first-insert [] ys k e = rw e
+  first-insert (x ∷ xs) ys k e = ap (λ (n : ℕ). cond (test x) x n) (first-insert xs ys k e)
+
+  -- the first of the whole is the first of any part that keeps it
+  pub first-part : (keep : ℕ → Bool) (ks : List ℕ) → keep (first test ks) ≡ true
+      → first test (part keep ks) ≡ first test ks
+  unfolding first part
+  first-part keep [] e = refl
+  first-part keep (k ∷ ks) e = elim (truth (test k)) [
+    | inl f ↦ rw (f, rw f at e, f)
+    | inr f ↦ elim (truth (keep k)) [
+      | inl g ↦ rw (f, g, f) (first-part keep ks (rw f at e))
+      | inr g ↦ rw (f, g) (first-part keep ks (rw f at e))
+    ]
   ]
 
   -- a number of which FirstOf tells is that number, so there is no other

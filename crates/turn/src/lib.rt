@@ -13,10 +13,7 @@ pub const TURN: Part = 192;
 fn reduced(x: Part) -> Part
     ensures { λ r. ⌜ r ≡ phase x ⌝ }
 {
-    if x < TURN {
-        return x;
-    }
-    x - TURN
+    x % TURN
 }
 
 // A phase. Functions that give one give it below a full turn; those that take one take any number of parts.
