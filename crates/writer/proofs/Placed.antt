@@ -1,55 +1,47 @@
--- The sixteen places of a block that is drawn: the first of them are the block of a column.
-use mathlib.Core.Path.{_≡_, refl, sym, ap, _∙_}
-use mathlib.Core.Logic.{inl, inr}
+-- The sixteen places of a block: what stands at each of them, and the first of them as the block of a column.
+use mathlib.Core.Path.{_≡_, sym, ap, _∙_}
 use mathlib.Core.List.{[], _∷_}
-use Prim.Native.Nat.{ℕ, zero, suc, _+_, _*_, _/_, _%_, _<_, _≤_}
-use native.Mathlib.Nat.{not-suc-le-zero, le-of-suc-le-suc, eq-or-lt-of-le, mod-lt, div-add-mod', div-lt-iff-lt-mul}
-use native.Mathlib.Nat.{add-comm}
+use Prim.Native.Nat.{ℕ, _+_, _*_, _/_, _%_, _<_, _≤_}
+use native.Mathlib.Nat.{zero-mul, zero-add, mod-lt, div-add-mod', div-lt-iff-lt-mul}
 use native.Mathlib.Omega.{arith}
-use lib.ListN.{length, take, getD, length-append, List·getD-append}
-use lib.Seq.{getD-at, getD-take, length-take-le, ext-getD}
+use lib.ListN.{length, take, getD}
+use lib.Seq.{getD-take, length-take-le, ext-getD}
 use Rattle.turn.specs.Phase.{phase}
 use Rattle.turn.specs.Column.{grid, column}
 use Rattle.turn.proofs.Lists.{length-grid}
-use Rattle.turn.proofs.Entries.{grid-entry}
+use Rattle.turn.proofs.Columns.{length-column}
+use Rattle.turn.proofs.Entries.{grid-entry, column-entry}
 use Rattle.writer.specs.Blocks.{placed}
-use Rattle.writer.proofs.Columns.{length-block, block-entry}
 
-module _ (w x y c : ℕ) where
-  pub length-placed : (n : ℕ) → length (placed n w x y c) ≡ n
+module _ (w x y c : ℕ) (some : 1 ≤ w) where
+  length-block : (rows : ℕ) → length (column (c ∷ []) (grid rows x w y)) ≡ rows * w
+  length-block rows = length-column (c ∷ []) (grid rows x w y) ∙ omega (arith, length-grid rows x w y)
+
+  -- place i is in row i / w
+  block-entry : (rows i : ℕ) → i < rows * w
+      → getD (column (c ∷ []) (grid rows x w y)) i 0 ≡ phase (c + (i / w * x + i % w * y))
+  block-entry rows i h =
+      simp (zero-mul, zero-add) at
+      (column-entry (c ∷ []) (grid rows x w y) 0 i (omega arith) (omega (arith, length-grid rows x w y)))
+      ∙ ap (λ (k : ℕ). phase (c + getD (grid rows x w y) k 0)) (sym (div-add-mod' i w))
+      ∙ ap (λ (z : ℕ). phase (c + z))
+      (grid-entry rows x w y (i / w) (i % w) (div-lt-iff-lt-mul some .1 h) (mod-lt i some))
+
+  pub length-placed : length (placed w x y c) ≡ 16
   unfolding placed
-  length-placed zero = refl
-  length-placed (suc n) = length-append (placed n w x y c) _ ∙ omega (arith, length-placed n)
+  length-placed = length-take-le 16 (column (c ∷ []) (grid 16 x w y)) (omega (arith, length-block 16))
 
-  pub placed-entry : (n i : ℕ) → i < n → getD (placed n w x y c) i 0 ≡ phase (i / w * x + i % w * y + c)
+  pub placed-entry : (i : ℕ) → i < 16 → getD (placed w x y c) i 0 ≡ phase (c + (i / w * x + i % w * y))
   unfolding placed
-  placed-entry zero i h = absurd (not-suc-le-zero h)
-  placed-entry (suc n) i h = elim (eq-or-lt-of-le (le-of-suc-le-suc h)) [
-    | inl e ↦
-        getD-at (placed n w x y c) _ [] 0 i (length-placed n ∙ sym e)
-        ∙ ap (λ (k : ℕ). phase (k / w * x + k % w * y + c)) (sym e)
-    | inr l ↦ List·getD-append (placed n w x y c) _ 0 i (omega (arith, length-placed n)) ∙ placed-entry n i l
-  ]
+  placed-entry i h = getD-take 16 (column (c ∷ []) (grid 16 x w y)) i 0 h ∙ block-entry 16 i (omega arith)
 
-  -- entry i of a grid of rows of w
-  grid-at : 1 ≤ w → (rows i : ℕ) → i < rows * w → getD (grid rows x w y) i 0 ≡ i / w * x + i % w * y
-  grid-at some rows i h =
-      ap (λ (k : ℕ). getD (grid rows x w y) k 0) (sym (div-add-mod' i w))
-      ∙ grid-entry rows x w y (i / w) (i % w) (div-lt-iff-lt-mul some .1 h) (mod-lt i some)
-
-  -- what is kept of n places is the block
-  pub block-placed : 1 ≤ w → (n rows : ℕ) → rows * w ≤ n
-      → take (rows * w) (placed n w x y c) ≡ column (c ∷ []) (grid rows x w y)
-  block-placed some n rows few =
-      ext-getD 0 _ _ (long ∙ sym (length-block c _ ∙ length-grid rows x w y)) (λ i h. same i (omega (arith, long)))
+  -- what is kept of the places is the block
+  pub block-placed : (rows : ℕ) → rows * w ≤ 16 → take (rows * w) (placed w x y c) ≡ column (c ∷ []) (grid rows x w y)
+  block-placed rows few =
+      let long = length-take-le (rows * w) (placed w x y c) (omega (arith, length-placed)) in
+      ext-getD 0 _ _ (long ∙ sym (length-block rows)) (λ i h. same i (omega (arith, long)))
     where
-      long : length (take (rows * w) (placed n w x y c)) ≡ rows * w
-      long = length-take-le (rows * w) (placed n w x y c) (omega (arith, length-placed n))
-
       same : (i : ℕ) → i < rows * w
-          → getD (take (rows * w) (placed n w x y c)) i 0 ≡ getD (column (c ∷ []) (grid rows x w y)) i 0
+          → getD (take (rows * w) (placed w x y c)) i 0 ≡ getD (column (c ∷ []) (grid rows x w y)) i 0
       same i h =
-          getD-take (rows * w) (placed n w x y c) i 0 h
-          ∙ placed-entry n i (omega arith)
-          ∙ ap phase (add-comm (i / w * x + i % w * y) c ∙ ap (λ (z : ℕ). c + z) (sym (grid-at some rows i h)))
-          ∙ sym (block-entry c (grid rows x w y) i (omega (arith, length-grid rows x w y)))
+          getD-take (rows * w) (placed w x y c) i 0 h ∙ placed-entry i (omega arith) ∙ sym (block-entry rows i h)

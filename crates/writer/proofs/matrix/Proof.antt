@@ -1,95 +1,76 @@
 -- `matrix` meets its contract: the sixteen entries after the layers are kept and put back.
-use mathlib.Core.Path.{_≡_, refl, sym, ap, _∙_}
+use mathlib.Core.Path.{_≡_, refl, sym, _∙_}
 use mathlib.Core.Bool.{true}
-use mathlib.Core.List.{List, _++_}
-use Prim.Native.Nat.{ℕ, _+_, _*_, _≤_}
-use native.Mathlib.Nat.{le-of-eq, le-trans}
-use lib.Dec.{lit≤}
+use Prim.Native.Nat.{ℕ, _+_, _-_, _*_, _≤_}
+use native.Mathlib.Omega.{arith}
 use denote.Ref.{now}
-use lib.ListN.{length, take, drop}
-use borrow.Author.Tests.{not-true, not-false}
+use lib.ListN.{length}
 use Rattle.plan.specs.Drawing.{height, drawn, drawable}
-use Rattle.writer.proofs.Numbers.{small-32, small-64, half-small, height-small, all-small}
+use Rattle.writer.specs.Blocks.{Sizes}
 use Rattle.writer.proofs.Laid.{put-back}
-use Rattle.writer.proofs.Drawn.{Sizes, drawable-sizes}
+use Rattle.writer.proofs.Drawn.{drawable-sizes, none-needed, some-needed}
 use Rattle.writer.proofs.matrix.Statement.{statement}
 use Rattle.writer.proofs.matrix.Tie as tie
 
--- the sizes can be drawn
-passed : (c : tie.Else1) → let a = c .before .before .before .args in drawable (a .s) (length (now (a .out))) ≡ true
-passed c = sym (c .before .is-drawable .ensures) ∙ not-false _ (c .if1 .left)
+-- the sizes can be drawn, and what is needed is sixteen more than the layers
+passed : (c : tie.Else1) → let a = c .before .before .before .args in
+    (drawable (a .s) (length (now (a .out))) ≡ true) × (c .before .needed .result ≡ a .s .v * height (a .s) + 16)
+unfolding drawable
+passed c = some-needed _ _ (c .before .needed .ensures) (c .if1 .left)
 
 sizes : (c : tie.Else1) → let a = c .before .before .before .args in Sizes (a .s) (length (now (a .out)))
-sizes c = drawable-sizes _ _ (passed c)
+sizes c = drawable-sizes _ _ (passed c .0)
 
--- where they were found to be
-abbrev passed-at : tie.After-places → tie.Else1
-passed-at c = c .before .before .before .before .before
+needed-more : {n : ℕ} (m : ℕ) → n ≡ m + 16 → 16 ≤ n
+needed-more m e = omega arith
 
-is-drawable-requires : tie.Need-is-drawable-requires
-is-drawable-requires c κs = tt
+needed-end : {n : ℕ} (m : ℕ) → n ≡ m + 16 → n - 16 ≡ m
+needed-end m e = omega arith
+
+-- so that there is room for sixteen
+needed-room : {n : ℕ} (m room long : ℕ) → n ≡ m + 16 → m + 16 ≤ room → long ≡ room → n - 16 + 16 ≤ long
+needed-room m room long e h same = omega arith
+
+room : (c : tie.Else1) (long : ℕ) → long ≡ length (now (c .before .before .before .args .out))
+    → c .before .needed .result - 16 + 16 ≤ long
+room c long same = needed-room _ _ long (passed c .1) (sizes c .fits) same
 
 returns : tie.Need-returns
-returns c = record { fits = sym (not-true _ (c .if1 .taken)) ∙ c .before .is-drawable .ensures; stands = refl }
+unfolding drawable
+returns c = record { fits = sym (none-needed _ _ (c .before .needed .ensures) (c .if1 .taken)); stands = refl }
 
-mul-end-2 : tie.Need-mul-end-2
-mul-end-2 c =
-    let z = sizes (c .before .before) in
-    small-32 _ (half-small _ _ _ (z .few) (z .pairs) (z .block))
-
-mul-end-3 : tie.Need-mul-end-3
-mul-end-3 c =
-    let z = sizes (c .before .before) in
-    small-32 _ (height-small _ _ _ (z .few) (z .pairs) (z .block))
-
-mul-end-4 : tie.Need-mul-end-4
-mul-end-4 c =
-    let z = sizes (c .before .before .before) in
-    small-32 _ (all-small _ _ _ (z .few) (z .pairs) (z .block))
-
-cast-end : tie.Need-cast-end
-cast-end c =
-    let z = sizes (c .before .before .before) in
-    small-64 _ (all-small _ _ _ (z .few) (z .pairs) (z .block))
+sub-end : tie.Need-sub-end
+sub-end c = needed-more _ (passed c .1)
 
 places-requires : tie.Need-places-requires
-places-requires c κs = sizes (c .before .before .before .before) .fits
+places-requires c κs = room (c .before) _ refl
 
 layers-requires : tie.Need-layers-requires
-layers-requires c κs = passed (passed-at (c .before))
+layers-requires c κs = sizes (c .before .before .before)
 
 put-requires : tie.Need-put-requires
 put-requires c κs =
     let l = c .before .before .before in
-    le-trans (sizes (passed-at (l .before .before)) .fits) (le-of-eq (sym (l .layers .kept .1 .0)))
+    room (l .before .before .before .before) _ (l .layers .kept .1 .0)
 
 returns-2 : tie.Need-returns-2
 returns-2 c =
-    let put = c .before .before .put in
     let l = c .before .before .before .before .before .before in
-    let places = l .before .before .places in
-    let e = passed-at (l .before .before) in
+    let e = l .before .before .before .before in
     let a = e .before .before .before .args in
-    let end : ℕ = a .s .v * height (a .s) in
-    let back = ap (λ (kept : List ℕ). take end (l .layers .last .1 .0) ++ kept ++ drop (end + 16) (l .layers .last .1 .0))
-    (places .ensures) in
     record {
-      fits = sym (passed e);
-      stands = put-back (now (a .out)) (l .layers .last .1 .0) (drawn (a .s) (a .s .v)) end (l .layers .ensures)
-          (put .ensures ∙ back);
+      fits = sym (passed e .0);
+      stands = put-back (now (a .out)) (l .layers .last .1 .0) (drawn (a .s) (a .s .v)) (a .s .v * height (a .s))
+          (l .layers .ensures) (needed-end _ (passed e .1)) (l .before .before .places .ensures) (c .before .before .put .ensures);
     }
 
 pub matrix-spec : {M : Type 1} → statement M
 matrix-spec =
     tie.close
     (tie.spec
-    is-drawable-requires
+    (λ c κs. tt)
     returns
-    (λ c. small-32 _ (le-trans (sizes (c .before) .block) (lit≤ tt)))
-    mul-end-2
-    mul-end-3
-    mul-end-4
-    cast-end
+    sub-end
     places-requires
     layers-requires
     put-requires
