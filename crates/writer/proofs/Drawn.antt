@@ -17,7 +17,7 @@ use Rattle.ground.proofs.Booleans.{and-true-left, and-true-right}
 use Rattle.ground.proofs.Lists.{join-next}
 use Rattle.plan.specs.Plan.{Layer, Plan, past, layerAt, columnOf, matrix}
 use Rattle.plan.specs.declared.Drawing.{Drawing}
-use Rattle.plan.specs.Drawing.{entries, height, coRow, beamAt, columnAt, drawn, drawable}
+use Rattle.plan.specs.Drawing.{height, coRow, beamAt, columnAt, drawn, drawable}
 use Rattle.turn.proofs.Columns.{length-column}
 use Rattle.writer.specs.Blocks.{small, Sizes}
 use Rattle.writer.proofs.Columns.{length-row}

@@ -1,11 +1,14 @@
 -- Lists put into a buffer one after the other, each with up to sixteen entries over its end, and those put back at last.
 use mathlib.Core.Path.{_≡_, refl, sym, ap, ap₂, _∙_, subst}
+use mathlib.Core.Bool.{Bool}
 use mathlib.Core.List.{List, [], _∷_, _++_, append-nil, append-assoc}
 use Prim.Native.Nat.{ℕ, _+_, _-_, _*_, _≤_}
 use native.Mathlib.Nat.{add-zero}
 use native.Mathlib.Omega.{arith}
-use lib.ListN.{length, take, drop, getD, length-append, take-append-drop}
-use lib.Seq.{drop-drop, drop-at, length-take-le}
+use lib.ListN.{length, take, drop, getD, replicate, length-append, length-drop, take-append-drop}
+use lib.Seq.{drop-drop, drop-at, take-all, length-take-le}
+use borrow.Author.Tests.{le-leb}
+use Rattle.ground.specs.Copied.{Copied}
 use Rattle.ground.proofs.Written.{take-over}
 use Rattle.turn.specs.Column.{grid, column}
 use Rattle.turn.proofs.Lists.{length-grid}
@@ -13,8 +16,7 @@ use Rattle.turn.proofs.Columns.{length-column}
 use Rattle.plan.specs.declared.Drawing.{Drawing}
 use Rattle.plan.specs.Drawing.{height, coAt, coRow, columnAt, drawn}
 use Rattle.writer.specs.Blocks.{placed, Put, Laid}
-use Rattle.writer.proofs.Columns.{length-row, column-next}
-use Rattle.writer.proofs.Placed.{length-placed, block-placed}
+use Rattle.writer.proofs.Columns.{length-row, column-next, length-placed, block-placed}
 use Rattle.writer.proofs.Drawn.{drawn-next, length-drawn}
 
 -- nothing is put down yet
@@ -91,6 +93,15 @@ laid-layer {lent} {mid} {left} {at} {end} s j before next =
 -- the place after j layers
 pub drawn-place : {lent mid : List ℕ} {at : ℕ} (s : Drawing) (j : ℕ) → Laid lent 0 (drawn s j) at mid → at ≡ j * height s
 drawn-place s j p = p .place ∙ omega (arith, length-drawn s j)
+
+-- the last entries of a list, from place `at` on, of which sixteen are copied
+pub copied-last : {left : List ℕ} {t : Bool} (out : List ℕ) (at : ℕ)
+    → Copied (take (length out - at) (drop at out)) 16 (replicate 16 0) t left → at + 16 ≤ length out
+    → left ≡ take 16 (drop at out)
+copied-last out at p h =
+    let long = length-drop at out in
+    let all = take-all (length out - at) (drop at out) (omega (arith, long)) in
+    p .stands ∙ rw (p .fits, all, le-leb 16 (length (drop at out)) (omega (arith, long))) (append-nil (take 16 (drop at out)))
 
 -- The sixteen entries past the end are put back: then all after it is as lent.
 pub put-back : {left kept : List ℕ} {to : ℕ} (lent mid xs : List ℕ) (end : ℕ) → Laid lent 0 xs end mid → to ≡ end

@@ -3,7 +3,7 @@ use mathlib.Core.Path.{_≡_}
 use Prim.Native.Nat.{ℕ, _+_, _-_, _*_, _%_, _^_, _<_, _≤_}
 use native.Mathlib.Nat.{mul-le-mul, mul-le-mul-right}
 use native.Mathlib.Omega.{arith}
-use mir.Syntax.{w16, w32, w64}
+use mir.Syntax.{w32, w64}
 use mir.Val.{Fits}
 
 -- ---- a loop that counts up
@@ -13,9 +13,6 @@ falls n i h = omega arith
 
 pub next-within : (n i : ℕ) → i < n → i + 1 ≤ n
 next-within n i h = omega arith
-
-pub next-fits : (n i : ℕ) → n ≤ 16 → i < n → Fits w64 (i + 1)
-next-fits n i k h = omega arith
 
 -- ---- sixteen places from place `at` on
 
@@ -56,9 +53,6 @@ pub record Layer (v j : ℕ) : Type 0 where
 pub layer : (v j : ℕ) → v ≤ 8 → j < v → Layer v j
 layer v j few h = record { fits = omega arith; twice = omega arith; below = omega arith; next = omega arith }
 
-pub code-fits : (x : ℕ) → Fits w64 (x % 4)
-code-fits x = omega arith
-
 pub code-fits-4 : (x : ℕ) → Fits w64 (x % 4 * 4)
 code-fits-4 x = omega arith
 
@@ -66,9 +60,6 @@ pub layer-within : (h v j to room long : ℕ) → to ≡ j * h → j < v → v *
 layer-within h v j to room long e less k same = omega (arith, mul-le-mul-right h less)
 
 -- ---- pairs of blocks: the two from block q on
-
-pub byte-fits : (x : ℕ) → Fits w16 (x % 256)
-byte-fits x = omega arith
 
 pub byte-below : (x : ℕ) → x % 256 ≤ 255
 byte-below x = omega arith

@@ -5,16 +5,13 @@ use native.Mathlib.Nat.{mul-le-mul, mod-lt, div-le-self, div-mul-le-self, mod-eq
 use native.Mathlib.Omega.{arith}
 use lib.Dec.{eqb, eqb→eq}
 use lib.ListN.{getD}
-use mir.Syntax.{w8, w16}
+use mir.Syntax.{w16}
 use mir.Val.{Fits}
 use Rattle.ground.specs.Lists.{every}
 use Rattle.ground.proofs.Tests.{every-at}
 use Rattle.turn.specs.Phase.{phase}
 use Rattle.writer.specs.Blocks.{placed}
-use Rattle.writer.proofs.Placed.{placed-entry}
-
-pub phase-fits : (x : ℕ) → Fits w8 (phase x)
-phase-fits x = omega arith
+use Rattle.writer.proofs.Columns.{placed-entry}
 
 -- the row of place i, and its entry in the row
 abbrev row : ℕ → ℕ → ℕ

@@ -39,16 +39,6 @@ fn draw(out: &mut [Part], at: usize, w: u32, x: u16, y: u16, c: u16, d: u16) -> 
     second
 }
 
-// The sixteen entries from place `at` on.
-pub fn places(out: &[Part], at: usize) -> [Part; PLACES]
-    requires { ⌜ at + 16 ≤ length (now out) ⌝ }
-    ensures { λ kept. ⌜ kept ≡ take 16 (drop at (now (out .entry))) ⌝ }
-{
-    let mut kept = [0; PLACES];
-    ground::copy(&out[at..], PLACES, &mut kept);
-    kept
-}
-
 // Puts sixteen entries from place `at` on.
 pub fn put(out: &mut [Part], at: usize, block: [Part; PLACES])
     requires { ⌜ at + 16 ≤ length (now out) ⌝ }

@@ -61,7 +61,8 @@ pub fn matrix(s: Drawing, out: &mut [Part]) -> bool
         return false;
     }
     let end = need - 16;
-    let kept = fill::places(out, end);
+    let mut kept = [0; fill::PLACES];
+    ground::copy(&out[end..], fill::PLACES, &mut kept);
     layers(s, out);
     fill::put(out, end, kept);
     true

@@ -1,15 +1,15 @@
 -- `layers` meets its contract: each turn has the column of the next layer put after those that stand.
 use mathlib.Core.Path.{_≡_, ap, subst₂, _∙_}
 use mathlib.Core.List.{List}
-use Prim.Native.Nat.{ℕ, _+_, _-_, _*_, _≤_, zero-le}
+use Prim.Native.Nat.{ℕ, _-_, _*_, _≤_, zero-le}
 use native.Mathlib.Nat.{le-antisymm, mod-lt}
 use denote.Ref.{now}
 use lib.Dec.{lit<}
-use lib.ListN.{length}
+use mir.Facts.{fits-lit, fits-lt}
 use Rattle.plan.specs.declared.Drawing.{Drawing}
 use Rattle.plan.specs.Drawing.{height, beamAt, columnAt, drawn}
 use Rattle.writer.specs.Blocks.{Laid}
-use Rattle.writer.proofs.Numbers.{falls, next-within, Layer, layer, code-fits, code-fits-4, layer-within}
+use Rattle.writer.proofs.Numbers.{falls, next-within, Layer, layer, code-fits-4, layer-within}
 use Rattle.writer.proofs.Laid.{laid-none, laid-layer, drawn-place}
 use Rattle.writer.proofs.layers.Statement.{statement}
 use Rattle.writer.proofs.layers.Tie as tie
@@ -78,7 +78,7 @@ layers-spec =
     (λ c. layer-of c .fits)
     (λ c. layer-of c .twice)
     (λ c. layer-of c .below)
-    (λ c. code-fits _)
+    (λ c. fits-lt (mod-lt _ (lit< tt)) (fits-lit tt))
     (λ c. code-fits-4 _)
     (λ c. mod-lt _ (lit< tt))
     column-requires

@@ -5,9 +5,10 @@ use Prim.Native.Nat.{ℕ, _+_, _-_, _*_, _≤_}
 use native.Mathlib.Omega.{arith}
 use denote.Ref.{now}
 use lib.ListN.{length}
+use borrow.Author.Needs.{needs}
 use Rattle.plan.specs.Drawing.{height, drawn, drawable}
 use Rattle.writer.specs.Blocks.{Sizes}
-use Rattle.writer.proofs.Laid.{put-back}
+use Rattle.writer.proofs.Laid.{copied-last, put-back}
 use Rattle.writer.proofs.Drawn.{drawable-sizes, none-needed, some-needed}
 use Rattle.writer.proofs.matrix.Statement.{statement}
 use Rattle.writer.proofs.matrix.Tie as tie
@@ -21,47 +22,40 @@ passed c = some-needed _ _ (c .before .needed .ensures) (c .if1 .left)
 sizes : (c : tie.Else1) → let a = c .before .before .before .args in Sizes (a .s) (length (now (a .out)))
 sizes c = drawable-sizes _ _ (passed c .0)
 
-needed-more : {n : ℕ} (m : ℕ) → n ≡ m + 16 → 16 ≤ n
-needed-more m e = omega arith
+-- so that there is room for the layers and for sixteen entries
+record Needed (n m room : ℕ) : Type 0 where
+  more : 16 ≤ n
+  end : n - 16 ≡ m
+  fits : n - 16 ≤ room
+  past : (long : ℕ) → long ≡ room → n - 16 + 16 ≤ long
 
-needed-end : {n : ℕ} (m : ℕ) → n ≡ m + 16 → n - 16 ≡ m
-needed-end m e = omega arith
+needed : {n : ℕ} (m room : ℕ) → n ≡ m + 16 → m + 16 ≤ room → Needed n m room
+needed m room e h = record { more = omega arith; end = omega arith; fits = omega arith; past = λ long same. omega arith }
 
--- so that there is room for sixteen
-needed-room : {n : ℕ} (m room long : ℕ) → n ≡ m + 16 → m + 16 ≤ room → long ≡ room → n - 16 + 16 ≤ long
-needed-room m room long e h same = omega arith
-
-room : (c : tie.Else1) (long : ℕ) → long ≡ length (now (c .before .before .before .args .out))
-    → c .before .needed .result - 16 + 16 ≤ long
-room c long same = needed-room _ _ long (passed c .1) (sizes c .fits) same
+numbers : (c : tie.Else1) → let a = c .before .before .before .args in
+    Needed (c .before .needed .result) (a .s .v * height (a .s)) (length (now (a .out)))
+numbers c = needed _ _ (passed c .1) (sizes c .fits)
 
 returns : tie.Need-returns
 unfolding drawable
 returns c = record { fits = sym (none-needed _ _ (c .before .needed .ensures) (c .if1 .taken)); stands = refl }
 
-sub-end : tie.Need-sub-end
-sub-end c = needed-more _ (passed c .1)
-
-places-requires : tie.Need-places-requires
-places-requires c κs = room (c .before) _ refl
-
-layers-requires : tie.Need-layers-requires
-layers-requires c κs = sizes (c .before .before .before)
-
 put-requires : tie.Need-put-requires
 put-requires c κs =
     let l = c .before .before .before in
-    room (l .before .before .before .before) _ (l .layers .kept .1 .0)
+    numbers (l .before .before .before .before .before .before .before) .past _ (l .layers .kept .1 .0)
 
 returns-2 : tie.Need-returns-2
 returns-2 c =
     let l = c .before .before .before .before .before .before in
-    let e = l .before .before .before .before in
+    let copy = l .before .before .before .copy in
+    let e = l .before .before .before .before .before .before .before in
     let a = e .before .before .before .args in
+    let kept = copied-last (now (a .out)) (e .before .needed .result - 16) (copy .ensures) (numbers e .past _ refl) in
     record {
       fits = sym (passed e .0);
       stands = put-back (now (a .out)) (l .layers .last .1 .0) (drawn (a .s) (a .s .v)) (a .s .v * height (a .s))
-          (l .layers .ensures) (needed-end _ (passed e .1)) (l .before .before .places .ensures) (c .before .before .put .ensures);
+          (l .layers .ensures) (numbers e .end) kept (c .before .before .put .ensures);
     }
 
 pub matrix-spec : {M : Type 1} → statement M
@@ -70,9 +64,13 @@ matrix-spec =
     (tie.spec
     (λ c κs. tt)
     returns
-    sub-end
-    places-requires
-    layers-requires
+    (λ c. numbers c .more)
+    (λ c. numbers c .fits)
+    (λ c. numbers (c .before) .fits)
+    (λ c. search needs)
+    (λ c. search needs)
+    (λ c κs. tt)
+    (λ c κs. sizes (c .before .before .before .before .before .before))
     put-requires
     (λ c. c .before .before .put .kept .0 ∙ c .before .before .before .before .before .before .layers .kept .1 .0)
     returns-2)

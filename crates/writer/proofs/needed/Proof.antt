@@ -2,7 +2,7 @@
 use mathlib.Core.Path.{_≡_}
 use mathlib.Core.Bool.{true, false}
 use Prim.Native.Nat.{_*_}
-use mir.Facts.{fits-below, fits-widen}
+use mir.Facts.{fits-below}
 use borrow.Author.Tests.{not-true, not-false, le-leb, lt-leb}
 use Rattle.writer.specs.Blocks.{small}
 use Rattle.writer.proofs.Numbers.{product-fits, Products, products}

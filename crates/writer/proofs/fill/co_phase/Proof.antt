@@ -1,6 +1,6 @@
 -- `fill::co_phase` meets its contract: a co-phase is a byte, and a bit takes it or not.
 use mathlib.Core.Path.{refl}
-use Prim.Native.Nat.{ℕ, _+_, _*_, _/_, _%_, _^_, _≤_}
+use Prim.Native.Nat.{ℕ, _+_, _*_, _/_, _%_, _≤_}
 use native.Mathlib.Nat.{le-trans, le-of-suc-le-suc, mul-le-mul}
 use native.Mathlib.Omega.{arith}
 use lib.Dec.{lit≤}
@@ -10,7 +10,7 @@ use mir.Val.{Fits}
 use mir.Facts.{fits-below, fits-lit, fits-lt, fits-widen}
 use borrow.Author.Needs.{elem-fits}
 use Rattle.turn.specs.Phase.{half}
-use Rattle.plan.specs.Drawing.{coAt, takes, marked}
+use Rattle.plan.specs.Drawing.{coAt, takes}
 use Rattle.writer.proofs.fill.co_phase.Statement.{statement}
 use Rattle.writer.proofs.fill.co_phase.Tie as tie
 

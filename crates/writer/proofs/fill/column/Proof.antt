@@ -1,14 +1,15 @@
 -- `fill::column` meets its contract: each turn puts one pair of blocks more after those that stand.
 use mathlib.Core.Path.{_≡_, refl, ap, subst, _∙_}
 use Prim.Native.Nat.{ℕ, _+_, _-_, _*_, _%_, _≤_, zero-le}
-use native.Mathlib.Nat.{le-antisymm}
+use native.Mathlib.Nat.{le-antisymm, mod-lt}
 use denote.Ref.{now}
+use lib.Dec.{lit<}
 use lib.ListN.{length}
 use mir.Facts.{fits-below, fits-lit, fits-lt}
 use Rattle.turn.specs.Column.{product, grid, column}
 use Rattle.plan.specs.Drawing.{coRow, stepX, stepY}
 use Rattle.writer.specs.Blocks.{placed, Laid}
-use Rattle.writer.proofs.Numbers.{byte-fits, byte-below, blocks-few, Pair, pair, Room, pair-room}
+use Rattle.writer.proofs.Numbers.{byte-below, blocks-few, Pair, pair, Room, pair-room}
 use Rattle.writer.proofs.Laid.{laid-none, laid-block, column-place}
 use Rattle.writer.proofs.fill.column.Statement.{statement}
 use Rattle.writer.proofs.fill.column.Tie as tie
@@ -86,8 +87,8 @@ column-spec =
     (tie.spec
     Inv-loop
     μ-loop
-    (λ c. byte-fits _)
-    (λ c. byte-fits _)
+    (λ c. fits-lt (mod-lt _ (lit< tt)) (fits-lit tt))
+    (λ c. fits-lt (mod-lt _ (lit< tt)) (fits-lit tt))
     (λ c. fits-below tt (blocks-few _ (c .before .pre .0)))
     (λ c. fits-below tt (c .before .pre .3))
     (λ c. fits-below tt (c .before .pre .3))

@@ -2,16 +2,16 @@
 use mathlib.Core.Path.{_≡_, refl, _∙_}
 use mathlib.Core.List.{[], _++_, append-nil}
 use Prim.Native.Nat.{_-_, _≤_}
-use native.Mathlib.Nat.{le-antisymm}
-use lib.Dec.{lit≤}
+use native.Mathlib.Nat.{le-antisymm, mod-lt}
+use lib.Dec.{lit<, lit≤}
 use lib.ListN.{length, take, drop, replicate, length-set}
 use lib.Seq.{paste, paste-zero}
 use mir.Facts.{fits-below, fits-lit, fits-lt}
 use Rattle.ground.proofs.Written.{stored, stored-all, stored-at, stored-all-at}
 use Rattle.writer.specs.Blocks.{placed}
-use Rattle.writer.proofs.Numbers.{falls, next-within, next-fits, sixteen-within, sixteen-fits}
-use Rattle.writer.proofs.Placed.{length-placed}
-use Rattle.writer.proofs.Rows.{phase-fits, Bounds, bounds, entry-placed}
+use Rattle.writer.proofs.Numbers.{falls, next-within, sixteen-within, sixteen-fits}
+use Rattle.writer.proofs.Columns.{length-placed}
+use Rattle.writer.proofs.Rows.{Bounds, bounds, entry-placed}
 use Rattle.writer.proofs.fill.draw.Statement.{statement}
 use Rattle.writer.proofs.fill.draw.Tie as tie
 
@@ -34,16 +34,6 @@ numbers c =
 
 loop-holds : tie.Need-loop-holds Inv-loop μ-loop
 loop-holds c = (lit≤ tt, paste-zero _ (c .args .at) [], refl, refl, refl)
-
-add-out-2 : tie.Need-add-out-2 Inv-loop μ-loop
-add-out-2 c =
-    let s = c .before .before in
-    sixteen-fits _ _ _ (c .loop-test .taken) (s .pre .6) (s .good .0 .0)
-
-slice-write-out : tie.Need-slice-write-out Inv-loop μ-loop
-slice-write-out c =
-    let s = c .before .before in
-    sixteen-within (s .args .at) _ _ (c .loop-test .taken) (s .pre .6) _ (c .before .loop .inv .2)
 
 loop-again : tie.Need-loop-again Inv-loop μ-loop
 loop-again c =
@@ -87,13 +77,13 @@ draw-spec =
     (λ c. numbers c .down)
     (λ c. numbers c .both)
     (λ c. numbers c .sum _ (c .before .before .pre .4))
-    (λ c. phase-fits _)
-    add-out-2
-    slice-write-out
+    (λ c. fits-lt (mod-lt _ (lit< tt)) (fits-lit tt))
+    (λ c. sixteen-fits _ _ _ (c .loop-test .taken) (c .before .before .pre .6) (c .before .before .good .0 .0))
+    (λ c. sixteen-within _ _ _ (c .loop-test .taken) (c .before .before .pre .6) _ (c .before .loop .inv .2))
     (λ c. numbers c .sum _ (c .before .before .pre .5))
-    (λ c. phase-fits _)
+    (λ c. fits-lt (mod-lt _ (lit< tt)) (fits-lit tt))
     (λ c. c .loop-test .taken)
-    (λ c. next-fits 16 _ (lit≤ tt) (c .loop-test .taken))
+    (λ c. fits-below tt (next-within 16 _ (c .loop-test .taken)))
     (λ c. falls 16 _ (c .loop-test .taken))
     loop-again
     (λ c. c .before .loop .inv .2)
