@@ -1,6 +1,6 @@
 -- What is drawn, layer by layer; sizes that can be drawn; and that it is a plan's matrix where each column is a layer's.
 use mathlib.Core.Path.{_≡_, refl, sym, ap, ap₂, _∙_}
-use mathlib.Core.Bool.{Bool, true, _&&_}
+use mathlib.Core.Bool.{Bool, true, false, _&&_}
 use mathlib.Core.List.{List, _++_, map}
 use Prim.Native.Nat.{ℕ, zero, suc, _+_, _*_, _<_, _≤_}
 use native.Mathlib.Nat.{zero-mul}
@@ -11,13 +11,15 @@ use lib.ListN.{length, take, getD, length-append}
 use lib.Seq.{take-all}
 use borrow.Author.Tests.{leb-true, le-leb}
 use Rattle.turn.proofs.Lists.{length-grid}
+use Rattle.ground.specs.Cases.{_⇒_∣_}
 use Rattle.ground.specs.Lists.{join}
 use Rattle.ground.proofs.Booleans.{and-true-left, and-true-right}
 use Rattle.ground.proofs.Lists.{join-next}
 use Rattle.plan.specs.Plan.{Layer, Plan, past, layerAt, columnOf, matrix}
 use Rattle.plan.specs.declared.Drawing.{Drawing}
-use Rattle.plan.specs.Drawing.{entries, height, coRow, beamAt, columnAt, drawn, drawable}
+use Rattle.plan.specs.Drawing.{height, coRow, beamAt, columnAt, drawn, drawable}
 use Rattle.turn.proofs.Columns.{length-column}
+use Rattle.writer.specs.Blocks.{small, Sizes}
 use Rattle.writer.proofs.Columns.{length-row}
 
 -- ---- layers
@@ -62,33 +64,44 @@ module _ (p : Plan) (s : Drawing) (many : length (p .layers) ≡ p .v)
 
 -- ---- sizes that can be drawn
 
-pub record Sizes (s : Drawing) (room : ℕ) : Type 0 where
-  pub few : s .v ≤ 8
-  pub pairs : s .pairs ≤ 4
-  pub some : 1 ≤ s .columns
-  pub narrow : s .columns ≤ 4
-  pub block : entries s ≤ 16
-  pub fits : s .v * height s + 16 ≤ room
+pub small-sizes : (v pairs rows columns : ℕ) → small v pairs rows columns ≡ true
+    → (v ≤ 8) × (pairs ≤ 4) × (1 ≤ columns) × (columns ≤ 4) × (rows * columns ≤ 16)
+small-sizes v pairs rows columns e =
+    let two : Bool = leb v 8 && leb pairs 4 in
+    let three : Bool = two && leb 1 columns in
+    let four : Bool = three && leb columns 4 in
+    let e4 = and-true-left four (leb (rows * columns) 16) e in
+    let e3 = and-true-left three (leb columns 4) e4 in
+    let e2 = and-true-left two (leb 1 columns) e3 in (
+      leb-true _ _ (and-true-left (leb v 8) (leb pairs 4) e2),
+      leb-true _ _ (and-true-right (leb v 8) (leb pairs 4) e2),
+      leb-true _ _ (and-true-right two (leb 1 columns) e3),
+      leb-true _ _ (and-true-right three (leb columns 4) e4),
+      leb-true _ _ (and-true-right four (leb (rows * columns) 16) e),
+    )
 
 pub drawable-sizes : (s : Drawing) (room : ℕ) → drawable s room ≡ true → Sizes s room
 unfolding drawable
 drawable-sizes s room e =
-    let two : Bool = leb (s .v) 8 && leb (s .pairs) 4 in
-    let three : Bool = two && leb 1 (s .columns) in
-    let four : Bool = three && leb (s .columns) 4 in
-    let five : Bool = four && leb (entries s) 16 in
-    let e5 = and-true-left five (leb (s .v * height s + 16) room) e in
-    let e4 = and-true-left four (leb (entries s) 16) e5 in
-    let e3 = and-true-left three (leb (s .columns) 4) e4 in
-    let e2 = and-true-left two (leb 1 (s .columns)) e3 in
+    let tested : Bool = small (s .v) (s .pairs) (s .rows) (s .columns) in
+    let z = small-sizes _ _ _ _ (and-true-left tested (leb (s .v * height s + 16) room) e) in
     record {
-      few = leb-true _ _ (and-true-left (leb (s .v) 8) (leb (s .pairs) 4) e2);
-      pairs = leb-true _ _ (and-true-right (leb (s .v) 8) (leb (s .pairs) 4) e2);
-      some = leb-true _ _ (and-true-right two (leb 1 (s .columns)) e3);
-      narrow = leb-true _ _ (and-true-right three (leb (s .columns) 4) e4);
-      block = leb-true _ _ (and-true-right four (leb (entries s) 16) e5);
-      fits = leb-true _ _ (and-true-right five (leb (s .v * height s + 16) room) e);
+      few = z .0;
+      pairs = z .1;
+      some = z .2;
+      narrow = z .3;
+      block = z .4;
+      fits = leb-true _ _ (and-true-right tested (leb (s .v * height s + 16) room) e);
     }
+
+-- what is needed is 0 where a test fails, and sixteen more than the layers where it holds
+pub none-needed : (t : Bool) {n : ℕ} (m : ℕ) → n ≡ (t ⇒ m + 16 ∣ 0) → n ≡ 0 → t ≡ false
+none-needed true m e z = absurd (omega arith)
+none-needed false m e z = refl
+
+pub some-needed : (t : Bool) {n : ℕ} (m : ℕ) → n ≡ (t ⇒ m + 16 ∣ 0) → (n ≡ 0 → ⊥) → (t ≡ true) × (n ≡ m + 16)
+some-needed true m e some = (refl, e)
+some-needed false m e some = absurd (some e)
 
 pub sizes-drawable : (s : Drawing) (room : ℕ) → Sizes s room → drawable s room ≡ true
 unfolding drawable

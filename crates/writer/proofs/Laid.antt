@@ -1,19 +1,23 @@
 -- Lists put into a buffer one after the other, each with up to sixteen entries over its end, and those put back at last.
 use mathlib.Core.Path.{_≡_, refl, sym, ap, ap₂, _∙_, subst}
+use mathlib.Core.Bool.{Bool}
 use mathlib.Core.List.{List, [], _∷_, _++_, append-nil, append-assoc}
 use Prim.Native.Nat.{ℕ, _+_, _-_, _*_, _≤_}
 use native.Mathlib.Nat.{add-zero}
 use native.Mathlib.Omega.{arith}
-use lib.ListN.{length, take, drop, getD, length-append, take-append-drop}
-use lib.Seq.{drop-drop, drop-at, length-take-le}
+use lib.ListN.{length, take, drop, getD, replicate, length-append, length-drop, take-append-drop}
+use lib.Seq.{drop-drop, drop-at, take-all, length-take-le}
+use borrow.Author.Tests.{le-leb}
+use Rattle.ground.specs.Copied.{Copied}
 use Rattle.ground.proofs.Written.{take-over}
 use Rattle.turn.specs.Column.{grid, column}
+use Rattle.turn.proofs.Lists.{length-grid}
+use Rattle.turn.proofs.Columns.{length-column}
 use Rattle.plan.specs.declared.Drawing.{Drawing}
-use Rattle.plan.specs.Drawing.{coAt, coRow, columnAt, drawn}
-use Rattle.writer.specs.Blocks.{placed, Laid}
-use Rattle.writer.proofs.Columns.{column-pair}
-use Rattle.writer.proofs.Placed.{length-placed, block-placed}
-use Rattle.writer.proofs.Drawn.{drawn-next}
+use Rattle.plan.specs.Drawing.{height, coAt, coRow, columnAt, drawn}
+use Rattle.writer.specs.Blocks.{placed, Put, Laid}
+use Rattle.writer.proofs.Columns.{length-row, column-next, length-placed, block-placed}
+use Rattle.writer.proofs.Drawn.{drawn-next, length-drawn}
 
 -- nothing is put down yet
 pub laid-none : (lent : List ℕ) (at : ℕ) → Laid lent at [] at lent
@@ -41,7 +45,7 @@ laid-append {lent} {mid} {left} {xs} {ys} {at} {to} {end} p q = record {
 
 -- the first h of sixteen entries that are put down
 pub laid-put : {left : List ℕ} (lent block : List ℕ) (at h : ℕ)
-    → left ≡ take at lent ++ block ++ drop (at + 16) lent → length left ≡ length lent → length block ≡ 16 → h ≤ 16
+    → Put lent at block left → length left ≡ length lent → length block ≡ 16 → h ≤ 16
     → at + 16 ≤ length lent → Laid lent at (take h block) (at + h) left
 laid-put {left} lent block at h e long sixteen few room = record {
   place = omega (arith, length-take-le h block (omega arith));
@@ -56,25 +60,29 @@ laid-put {left} lent block at h e long sixteen few room = record {
     kept : drop (at + 16) left ≡ drop (at + 16) lent
     kept = rw e (drop-at (take at lent ++ block) (drop (at + 16) lent) (at + 16) (rw length-append (omega (arith, here))))
 
--- a block of a column, of which sixteen places are put down
-pub laid-block : {left block : List ℕ} (lent : List ℕ) (at rows w x y c h : ℕ) → block ≡ placed 16 w x y c
-    → left ≡ take at lent ++ block ++ drop (at + 16) lent → length left ≡ length lent → 1 ≤ w → rows * w ≡ h → h ≤ 16
-    → at + 16 ≤ length lent → Laid lent at (column (c ∷ []) (grid rows x w y)) (at + h) left
-laid-block {left} {block} lent at rows w x y c h drawn e long some all few room =
-    subst (λ (xs : List ℕ). Laid lent at xs (at + h) left) same
-    (laid-put lent block at h e long (ap length drawn ∙ length-placed w x y c 16) few room)
+-- one block more of a column, of which sixteen places are put down
+pub laid-block : {lent mid left block : List ℕ} {at to : ℕ} (co : List ℕ) (code q rows w x y : ℕ)
+    → Laid lent at (column (coRow co code q) (grid rows x w y)) to mid → block ≡ placed w x y (coAt co code q)
+    → Put mid to block left → length left ≡ length mid → 1 ≤ w → rows * w ≤ 16 → to + 16 ≤ length mid
+    → Laid lent at (column (coRow co code (q + 1)) (grid rows x w y)) (to + rows * w) left
+laid-block {lent} {mid} {left} {block} {at} {to} co code q rows w x y before drawn e long some few room =
+    subst (λ (xs : List ℕ). Laid lent at xs (to + rows * w) left) (sym (column-next co code q (grid rows x w y)))
+    (laid-append before (subst (λ (xs : List ℕ). Laid mid to xs (to + rows * w) left) same put))
   where
-    same : take h block ≡ column (c ∷ []) (grid rows x w y)
-    same = ap₂ take (sym all) drawn ∙ block-placed w x y c some 16 rows (omega arith)
+    c : ℕ
+    c = coAt co code q
 
--- one pair of blocks more
-pub laid-pair : {lent mid mid′ left : List ℕ} {at to to′ end : ℕ} (co : List ℕ) (code q : ℕ) (b : List ℕ)
-    → Laid lent at (column (coRow co code (2 * q)) b) to mid → Laid mid to (column (coAt co code (2 * q) ∷ []) b) to′ mid′
-    → Laid mid′ to′ (column (coAt co code (2 * q + 1) ∷ []) b) end left
-    → Laid lent at (column (coRow co code (2 * (q + 1))) b) end left
-laid-pair {lent} {mid} {mid′} {left} {at} {to} {to′} {end} co code q b before first second =
-    subst (λ (xs : List ℕ). Laid lent at xs end left) (sym (column-pair co code q b))
-    (laid-append (laid-append before first) second)
+    put : Laid mid to (take (rows * w) block) (to + rows * w) left
+    put = laid-put mid block to (rows * w) e long (ap length drawn ∙ length-placed w x y c some) few room
+
+    same : take (rows * w) block ≡ column (c ∷ []) (grid rows x w y)
+    same = ap (take (rows * w)) drawn ∙ block-placed w x y c some rows few
+
+-- the place after q blocks
+pub column-place : {lent mid : List ℕ} {at to : ℕ} (co : List ℕ) (code q rows w x y : ℕ)
+    → Laid lent at (column (coRow co code q) (grid rows x w y)) to mid → to ≡ at + q * (rows * w)
+column-place {at = at} co code q rows w x y p =
+    p .place ∙ ap (λ (n : ℕ). at + n) (length-column _ _ ∙ ap₂ _*_ (length-row co code q) (length-grid rows x w y))
 
 -- one layer more
 pub laid-layer : {lent mid left : List ℕ} {at end : ℕ} (s : Drawing) (j : ℕ) → Laid lent 0 (drawn s j) at mid
@@ -82,11 +90,25 @@ pub laid-layer : {lent mid left : List ℕ} {at end : ℕ} (s : Drawing) (j : �
 laid-layer {lent} {mid} {left} {at} {end} s j before next =
     subst (λ (xs : List ℕ). Laid lent 0 xs end left) (sym (drawn-next s j)) (laid-append before next)
 
+-- the place after j layers
+pub drawn-place : {lent mid : List ℕ} {at : ℕ} (s : Drawing) (j : ℕ) → Laid lent 0 (drawn s j) at mid → at ≡ j * height s
+drawn-place s j p = p .place ∙ omega (arith, length-drawn s j)
+
+-- the last entries of a list, from place `at` on, of which sixteen are copied
+pub copied-last : {left : List ℕ} {t : Bool} (out : List ℕ) (at : ℕ)
+    → Copied (take (length out - at) (drop at out)) 16 (replicate 16 0) t left → at + 16 ≤ length out
+    → left ≡ take 16 (drop at out)
+copied-last out at p h =
+    let long = length-drop at out in
+    let all = take-all (length out - at) (drop at out) (omega (arith, long)) in
+    p .stands ∙ rw (p .fits, all, le-leb 16 (length (drop at out)) (omega (arith, long))) (append-nil (take 16 (drop at out)))
+
 -- The sixteen entries past the end are put back: then all after it is as lent.
-pub put-back : {left : List ℕ} (lent mid xs : List ℕ) (end : ℕ) → Laid lent 0 xs end mid
-    → left ≡ take end mid ++ take 16 (drop end lent) ++ drop (end + 16) mid → left ≡ xs ++ drop end lent
-put-back lent mid xs end p e =
+pub put-back : {left kept : List ℕ} {to : ℕ} (lent mid xs : List ℕ) (end : ℕ) → Laid lent 0 xs end mid → to ≡ end
+    → kept ≡ take 16 (drop to lent) → Put mid to kept left → left ≡ xs ++ drop end lent
+put-back lent mid xs end p same k e =
     e
-    ∙ ap₂ (λ (l r : List ℕ). l ++ take 16 (drop end lent) ++ r) (p .front) (p .back ∙ sym (drop-drop 16 end lent))
+    ∙ rw (k, same)
+    (ap₂ (λ (l r : List ℕ). l ++ take 16 (drop end lent) ++ r) (p .front) (p .back ∙ sym (drop-drop 16 end lent))
     ∙ append-assoc xs (take 16 (drop end lent)) (drop 16 (drop end lent))
-    ∙ ap (λ (l : List ℕ). xs ++ l) (take-append-drop 16 (drop end lent))
+    ∙ ap (λ (l : List ℕ). xs ++ l) (take-append-drop 16 (drop end lent)))

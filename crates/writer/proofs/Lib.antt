@@ -1,7 +1,6 @@
 -- Laws that the proofs share; `Drawn` has what other crates come for.
 pub mod Numbers
 pub mod Columns
-pub mod Placed
 pub mod Rows
 pub mod Drawn
 pub mod Room

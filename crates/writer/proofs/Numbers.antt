@@ -3,7 +3,7 @@ use mathlib.Core.Path.{_≡_}
 use Prim.Native.Nat.{ℕ, _+_, _-_, _*_, _%_, _^_, _<_, _≤_}
 use native.Mathlib.Nat.{mul-le-mul, mul-le-mul-right}
 use native.Mathlib.Omega.{arith}
-use mir.Syntax.{w16, w32, w64}
+use mir.Syntax.{w32, w64}
 use mir.Val.{Fits}
 
 -- ---- a loop that counts up
@@ -14,76 +14,8 @@ falls n i h = omega arith
 pub next-within : (n i : ℕ) → i < n → i + 1 ≤ n
 next-within n i h = omega arith
 
-pub next-fits : (n i : ℕ) → n ≤ 16 → i < n → Fits w64 (i + 1)
-next-fits n i k h = omega arith
+-- ---- sixteen places from place `at` on
 
-pub next-fits-32 : (n i : ℕ) → n ≤ 16 → i < n → Fits w32 (i + 1)
-next-fits-32 n i k h = omega arith
-
-pub place-fits : (n i : ℕ) → n ≤ 16 → i < n → Fits w64 i
-place-fits n i k h = omega arith
-
-pub twice-fits : (n i : ℕ) → n ≤ 16 → i < n → Fits w64 (i * 2)
-twice-fits n i k h = omega arith
-
-pub code-fits : (x : ℕ) → Fits w64 (x % 4)
-code-fits x = omega arith
-
-pub code-fits-4 : (x : ℕ) → Fits w64 (x % 4 * 4)
-code-fits-4 x = omega arith
-
--- ---- sizes
-
-pub small-32 : (x : ℕ) → x ≤ 1024 → Fits w32 x
-small-32 x h = omega arith
-
-pub small-64 : (x : ℕ) → x ≤ 1024 → Fits w64 x
-small-64 x h = omega arith
-
-pub past-fits : (x : ℕ) → x ≤ 1024 → Fits w64 (x + 16)
-past-fits x h = omega arith
-
-pub product-fits : (x y : ℕ) → Fits w32 x → y ≤ 4 → Fits w64 (x * y)
-product-fits x y f h = omega (arith, mul-le-mul {n₁ = x} {n₂ = 2 ^ 32} (omega (arith, f .fits)) h)
-
--- no product of the sizes of a drawing is large: v layers of n pairs of blocks of h entries
-module _ (v n h : ℕ) (few : v ≤ 8) (pairs : n ≤ 4) (block : h ≤ 16) where
-  half-few : n * h ≤ 64
-  half-few = mul-le-mul {n₂ = 4} {m₂ = 16} pairs block
-
-  pub half-small : n * h ≤ 1024
-  half-small = omega (arith, half-few)
-
-  pub height-small : 2 * (n * h) ≤ 1024
-  height-small = omega (arith, half-few)
-
-  pub all-small : v * (2 * (n * h)) ≤ 1024
-  all-small = mul-le-mul {n₂ = 8} {m₂ = 128} few (omega (arith, half-few))
-
--- ---- steps, and the blocks of a pair
-
-pub byte-fits : (x : ℕ) → Fits w16 (x % 256)
-byte-fits x = omega arith
-
-pub byte-below : (x : ℕ) → x % 256 ≤ 255
-byte-below x = omega arith
-
-module _ (n q : ℕ) (few : n ≤ 4) (h : q < n) where
-  pub even-below : 2 * q < 8
-  even-below = omega arith
-
-  pub odd-below : 2 * q + 1 < 8
-  odd-below = omega arith
-
-  pub even-fits : Fits w64 (2 * q)
-  even-fits = omega arith
-
-  pub odd-fits : Fits w64 (2 * q + 1)
-  odd-fits = omega arith
-
--- ---- places
-
--- sixteen places from place `at` on
 module _ (at i long : ℕ) (h : i < 16) (k : at + 16 ≤ long) where
   pub sixteen-within : (long′ : ℕ) → long′ ≡ long → at + i < long′
   sixteen-within long′ e = omega arith
@@ -91,42 +23,77 @@ module _ (at i long : ℕ) (h : i < 16) (k : at + 16 ≤ long) where
   pub sixteen-fits : long < 2 ^ 64 → Fits w64 (at + i)
   sixteen-fits few = omega arith
 
--- n parts of h entries, from the front on: the part after j of them
-module _ (h : ℕ) where
-  pub none-first : 0 ≡ 0 * h
-  none-first = omega arith
+-- ---- sizes: v layers of n pairs of blocks of h entries
 
-  pub part-end : (j to : ℕ) → to ≡ j * h → to + h ≡ (j + 1) * h
-  part-end j to e = omega arith
+pub product-fits : (x y : ℕ) → Fits w32 x → Fits w32 y → Fits w64 (x * y)
+product-fits x y f g =
+    let most : ℕ = 4294967295 in
+    omega (arith, mul-le-mul {n₁ = x} {m₁ = y} {n₂ = most} {m₂ = most} (omega (arith, f .fits)) (omega (arith, g .fits)))
 
-  pub part-within : (n j to room long : ℕ) → to ≡ j * h → j < n → n * h + 16 ≤ room → long ≡ room → to + h + 16 ≤ long
-  part-within n j to room long e less k same = omega (arith, mul-le-mul-right h less)
+pub record Products (v n h : ℕ) : Type 0 where
+  pub half : n * h ≤ 64
+  pub height : 2 * (n * h) ≤ 128
+  pub all : v * (2 * (n * h)) ≤ 1024
+  pub past : v * (2 * (n * h)) + 16 ≤ 1040
 
-  pub part-fits : (to long : ℕ) → to + h + 16 ≤ long → long < 2 ^ 64 → Fits w64 (to + h)
-  part-fits to long k few = omega arith
+pub products : (v n h : ℕ) → v ≤ 8 → n ≤ 4 → h ≤ 16 → Products v n h
+products v n h few pairs block =
+    let half : n * h ≤ 64 = mul-le-mul {n₂ = 4} {m₂ = 16} pairs block in
+    let all : v * (2 * (n * h)) ≤ 1024 = mul-le-mul {n₂ = 8} {m₂ = 128} few (omega arith) in
+    record { half = half; height = omega arith; all = all; past = omega arith }
 
--- n pairs of parts of h entries, from place `at` on: the pair after q of them
-module _ (at h : ℕ) where
-  pub none-yet : at ≡ at + 2 * (0 * h)
-  none-yet = omega arith
+-- ---- layers: the code of one, and its place after j others of h entries
 
-  pub pair-end : (q to : ℕ) → to ≡ at + 2 * (q * h) → to + h + h ≡ at + 2 * ((q + 1) * h)
-  pair-end q to e = omega arith
+pub record Layer (v j : ℕ) : Type 0 where
+  pub fits : Fits w64 j
+  pub twice : Fits w64 (j * 2)
+  pub below : j < 8
+  pub next : Fits w32 (j + 1)
 
-  pub pair-within : (n q to room long : ℕ) → to ≡ at + 2 * (q * h) → q < n → at + 2 * (n * h) + 16 ≤ room → long ≡ room
-      → to + 2 * h + 16 ≤ long
-  pair-within n q to room long e less k same = omega (arith, mul-le-mul-right h less)
+pub layer : (v j : ℕ) → v ≤ 8 → j < v → Layer v j
+layer v j few h = record { fits = omega arith; twice = omega arith; below = omega arith; next = omega arith }
 
--- the two parts of a pair that is within
-module _ (to h long : ℕ) (k : to + 2 * h + 16 ≤ long) where
-  pub first-within : to + 16 ≤ long
-  first-within = omega arith
+pub code-fits-4 : (x : ℕ) → Fits w64 (x % 4 * 4)
+code-fits-4 x = omega arith
 
-  pub second-within : (long′ : ℕ) → long′ ≡ long → to + h + 16 ≤ long′
-  second-within long′ e = omega arith
+pub layer-within : (h v j to room long : ℕ) → to ≡ j * h → j < v → v * h + 16 ≤ room → long ≡ room → to + h + 16 ≤ long
+layer-within h v j to room long e less k same = omega (arith, mul-le-mul-right h less)
 
-  pub first-fits : long < 2 ^ 64 → Fits w64 (to + h)
-  first-fits few = omega arith
+-- ---- pairs of blocks: the two from block q on
 
-  pub second-fits : long < 2 ^ 64 → Fits w64 (to + h + h)
-  second-fits few = omega arith
+pub byte-below : (x : ℕ) → x % 256 ≤ 255
+byte-below x = omega arith
+
+pub blocks-few : (pairs : ℕ) → pairs ≤ 4 → 2 * pairs ≤ 8
+blocks-few pairs h = omega arith
+
+pub record Pair (pairs q : ℕ) : Type 0 where
+  pub first : q < 8
+  pub second : q + 1 < 8
+  pub next : q + 1 + 1 ≤ 8
+  pub end : q + 1 + 1 ≤ 2 * pairs
+  pub even : (q + 1 + 1) % 2 ≡ 0
+  pub falls : 2 * pairs - (q + 1 + 1) < 2 * pairs - q
+
+pub pair : (pairs q : ℕ) → pairs ≤ 4 → q < 2 * pairs → q % 2 ≡ 0 → Pair pairs q
+pair pairs q few h even = record {
+  first = omega arith;
+  second = omega arith;
+  next = omega arith;
+  end = omega arith;
+  even = omega arith;
+  falls = omega arith;
+}
+
+-- their places, of h entries each
+pub record Room (to h long : ℕ) : Type 0 where
+  pub first : to + 16 ≤ long
+  pub second : (long′ : ℕ) → long′ ≡ long → to + h + 16 ≤ long′
+  pub fits : Fits w64 (to + h)
+  pub fits-both : Fits w64 (to + h + h)
+
+pub pair-room : (at h pairs q to room long : ℕ) → to ≡ at + q * h → Pair pairs q → at + 2 * (pairs * h) + 16 ≤ room
+    → long ≡ room → room < 2 ^ 64 → Room to h long
+pair-room at h pairs q to room long e p k same few =
+    let all : to + h + h + 16 ≤ long = omega (arith, mul-le-mul-right h (p .end)) in
+    record { first = omega arith; second = λ long′ e′. omega arith; fits = omega arith; fits-both = omega arith }

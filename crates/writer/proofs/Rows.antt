@@ -1,65 +1,62 @@
--- Places below sixteen in rows of w entries, where a product by k and a shift divide by w: nothing leaves sixteen bits.
+-- Places below sixteen in rows of w entries, where a product by 34 / w and a shift divide by w: nothing leaves sixteen bits.
 use mathlib.Core.Path.{_≡_, sym, ap₂, _∙_}
 use Prim.Native.Nat.{ℕ, _+_, _-_, _*_, _/_, _%_, _<_, _≤_}
 use native.Mathlib.Nat.{mul-le-mul, mod-lt, div-le-self, div-mul-le-self, mod-eq-sub-div-mul}
 use native.Mathlib.Omega.{arith}
+use lib.Dec.{eqb, eqb→eq}
 use lib.ListN.{getD}
-use mir.Syntax.{w8, w16}
+use mir.Syntax.{w16}
 use mir.Val.{Fits}
+use Rattle.ground.specs.Lists.{every}
+use Rattle.ground.proofs.Tests.{every-at}
 use Rattle.turn.specs.Phase.{phase}
-use Rattle.writer.specs.Blocks.{Shift, placed}
-use Rattle.writer.proofs.Placed.{placed-entry}
+use Rattle.writer.specs.Blocks.{placed}
+use Rattle.writer.proofs.Columns.{placed-entry}
 
-pub phase-fits : (x : ℕ) → Fits w8 (phase x)
-phase-fits x = omega arith
+-- the row of place i, and its entry in the row
+abbrev row : ℕ → ℕ → ℕ
+row w i = i * (34 / w) / 32
 
-pub length-fits : (w : ℕ) → w ≤ 4 → Fits w16 w
-length-fits w few = omega arith
+abbrev rest : ℕ → ℕ → ℕ
+rest w i = i - row w i * w
 
-pub place-fits : (i : ℕ) → i < 16 → Fits w16 i
-place-fits i h = omega arith
+row-is : (w i : ℕ) → w ≤ 4 → i < 16 → row w i ≡ i / w
+unfolding every
+row-is w i few h =
+    let tested = every-at 5 (λ u. every 16 (λ j. eqb (row u j) (j / u))) tt w (omega arith) in
+    eqb→eq _ _ (every-at 16 (λ j. eqb (row w j) (j / w)) tested i h)
 
-module _ (w k : ℕ) (s : Shift w k) (i : ℕ) (h : i < 16) where
-  -- the row of place i, and its entry in the row
-  abbrev row : ℕ
-  row = i * k / 32
+-- the numbers of a place, and with them the phase of its entry before what is added
+pub record Bounds (w i x y : ℕ) : Type 0 where
+  pub product : Fits w16 (i * (34 / w))
+  pub within : row w i * w ≤ i
+  pub front : Fits w16 (row w i * w)
+  pub across : Fits w16 (row w i * x)
+  pub down : Fits w16 (rest w i * y)
+  pub both : Fits w16 (row w i * x + rest w i * y)
+  pub sum : (c : ℕ) → c ≤ 511 → Fits w16 (c + (row w i * x + rest w i * y))
 
-  abbrev rest : ℕ
-  rest = i - row * w
+module _ (w i : ℕ) (some : 1 ≤ w) (few : w ≤ 4) (h : i < 16) where
+  rest-is : rest w i ≡ i % w
+  rest-is = rw (row-is w i few h) (sym (mod-eq-sub-div-mul i w))
 
-  rest-mod : rest ≡ i % w
-  rest-mod = rw (s .same i h) (sym (mod-eq-sub-div-mul i w))
-
-  pub row-within : row * w ≤ i
-  row-within = rw (s .same i h) (div-mul-le-self i w)
-
-  pub product-fits : Fits w16 (i * k)
-  product-fits = omega (arith, mul-le-mul {n₁ = i} {n₂ = 16} {m₂ = 32} (omega arith) (s .few))
-
-  pub row-fits : Fits w16 (row * w)
-  row-fits = omega (arith, row-within)
-
-  -- the phase of the entry, before what is added
-  module _ (some : 1 ≤ w) (few : w ≤ 4) (x y : ℕ) (left : x ≤ 255) (right : y ≤ 255) where
-    across-small : row * x ≤ 3825
-    across-small = mul-le-mul {n₂ = 15} {m₂ = 255} (rw (s .same i h) (omega (arith, div-le-self i w))) left
-
-    down-small : rest * y ≤ 765
-    down-small = mul-le-mul {n₂ = 3} {m₂ = 255} (rw rest-mod (omega (arith, mod-lt i some))) right
-
-    pub across-fits : Fits w16 (row * x)
-    across-fits = omega (arith, across-small)
-
-    pub down-fits : Fits w16 (rest * y)
-    down-fits = omega (arith, down-small)
-
-    pub beam-fits : Fits w16 (row * x + rest * y)
-    beam-fits = omega (arith, across-small, down-small)
-
-    pub sum-fits : (c : ℕ) → c ≤ 511 → Fits w16 (row * x + rest * y + c)
-    sum-fits c e = omega (arith, across-small, down-small)
+  pub bounds : (x y : ℕ) → x ≤ 255 → y ≤ 255 → Bounds w i x y
+  bounds x y left right =
+      let within : row w i * w ≤ i = rw (row-is w i few h) (div-mul-le-self i w) in
+      let a : row w i * x ≤ 3825 = mul-le-mul {n₂ = 15} {m₂ = 255}
+      (rw (row-is w i few h) (omega (arith, div-le-self i w))) left in
+      let b : rest w i * y ≤ 765 = mul-le-mul {n₂ = 3} {m₂ = 255} (rw rest-is (omega (arith, mod-lt i some))) right in
+      record {
+        product = omega (arith, mul-le-mul {n₁ = i} {n₂ = 15} {m₂ = 34} (omega arith) (div-le-self 34 w));
+        within = within;
+        front = omega (arith, within);
+        across = omega arith;
+        down = omega arith;
+        both = omega arith;
+        sum = λ c k. omega arith;
+      }
 
   -- the entry that is stored
-  pub entry-placed : (x y c : ℕ) → phase (row * x + rest * y + c) ≡ getD (placed 16 w x y c) i 0
+  pub entry-placed : (x y c : ℕ) → phase (c + (row w i * x + rest w i * y)) ≡ getD (placed w x y c) i 0
   entry-placed x y c =
-      ap₂ (λ (a b : ℕ). phase (a * x + b * y + c)) (s .same i h) rest-mod ∙ sym (placed-entry w x y c 16 i h)
+      ap₂ (λ (a b : ℕ). phase (c + (a * x + b * y))) (row-is w i few h) rest-is ∙ sym (placed-entry w x y c some i h)

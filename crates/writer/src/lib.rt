@@ -2,50 +2,43 @@
 use plan::Drawing;
 use turn::Part;
 ghost use mathlib.Core.Path.{_≡_};
-ghost use mathlib.Core.Bool.{true};
+ghost use mathlib.Core.Bool.{_&&_};
 ghost use Prim.Native.Nat.{_*_};
+ghost use lib.Dec.{leb};
 ghost use lib.ListN.{length};
-ghost use Rattle.plan.specs.Drawing.{height, drawn, drawable, Written};
-ghost use Rattle.writer.specs.Blocks.{Laid};
+ghost use Rattle.ground.specs.Cases.{_⇒_∣_};
+ghost use Rattle.plan.specs.Drawing.{height, drawn, Written};
+ghost use Rattle.writer.specs.Blocks.{Laid, small, need, Sizes};
 
 mod fill;
 
-// Whether the sizes can be drawn in a buffer of so many entries.
-fn is_drawable(s: Drawing, room: usize) -> bool
-    ensures { λ t. ⌜ t ≡ drawable s room ⌝ }
+// The entries that a buffer needs for such sizes, sixteen past the last layer among them. 0 where they cannot be drawn in
+// so many.
+fn needed(v: u32, pairs: u32, rows: u32, columns: u32, room: usize) -> usize
+    ensures { λ n. ⌜ n ≡ (small v pairs rows columns && leb (need v pairs rows columns) room ⇒ need v pairs rows columns ∣ 0) ⌝ }
 {
-    if 8 < s.v {
-        return false;
+    let h = rows as usize * columns as usize;
+    if !((v <= 8) & (pairs <= 4) & (1 <= columns) & (columns <= 4) & (h <= 16)) {
+        return 0;
     }
-    if 4 < s.pairs {
-        return false;
+    let n = v as usize * (2 * (pairs as usize * h)) + 16;
+    if room < n {
+        return 0;
     }
-    if s.columns == 0 {
-        return false;
-    }
-    if 4 < s.columns {
-        return false;
-    }
-    let h = s.rows as u64 * s.columns as u64;
-    if 16 < h {
-        return false;
-    }
-    let end = s.v as u64 * (2 * (s.pairs as u64 * h));
-    end as usize + 16 <= room
+    n
 }
 
 // The layers, one after the other. Some entries after the last change, fewer than sixteen.
 fn layers(s: Drawing, out: &mut [Part])
-    requires { ⌜ drawable s (length (now out)) ≡ true ⌝ }
+    requires { ⌜ Sizes s (length (now out)) ⌝ }
     ensures { λ _. ⌜ Laid (now (out .entry)) 0 (drawn s (s .v)) (s .v * height s) (now (out .exit)) ⌝ }
 {
     let v = s.v;
-    let n = s.pairs as usize;
-    let w = s.columns as usize;
-    let h = s.rows as usize * w;
-    let height = 2 * (n * h);
-    let co = s.co;
+    let pairs = s.pairs;
+    let rows = s.rows;
+    let columns = s.columns;
     let steps = s.steps;
+    let co = s.co;
     let codes = s.codes;
     let mut j = 0;
     let mut at = 0;
@@ -53,8 +46,7 @@ fn layers(s: Drawing, out: &mut [Part])
         let code = codes[j as usize];
         let place = (code / 512 % 4) as usize;
         let step = steps[place];
-        fill::column(out, at, n, h, w, step, co, code);
-        at += height;
+        at = fill::column(out, at, pairs, rows, columns, step, co, code);
         j += 1;
     }
 }
@@ -65,11 +57,13 @@ fn layers(s: Drawing, out: &mut [Part])
 pub fn matrix(s: Drawing, out: &mut [Part]) -> usize
     ensures { λ n. ⌜ Written s (now (out .entry)) n (now (out .exit)) ⌝ }
 {
-    if !is_drawable(s, out.len()) {
+    let need = needed(s.v, s.pairs, s.rows, s.columns, out.len());
+    if need == 0 {
         return 0;
     }
-    let end = (s.v * (2 * (s.pairs * (s.rows * s.columns)))) as usize;
-    let kept = fill::places(out, end);
+    let end = need - 16;
+    let mut kept = [0; fill::PLACES];
+    ground::copy(&out[end..], fill::PLACES, &mut kept);
     layers(s, out);
     fill::put(out, end, kept);
     end

@@ -7,8 +7,9 @@ use native.Mathlib.Nat.{le-antisymm}
 use lib.Dec.{lit≤}
 use lib.ListN.{length, length-set}
 use lib.Seq.{paste, paste-zero}
+use mir.Facts.{fits-below}
 use Rattle.ground.proofs.Written.{stored-at, stored-all-at}
-use Rattle.writer.proofs.Numbers.{falls, next-within, next-fits, sixteen-within, sixteen-fits}
+use Rattle.writer.proofs.Numbers.{falls, next-within, sixteen-within, sixteen-fits}
 use Rattle.writer.proofs.fill.put.Statement.{statement}
 use Rattle.writer.proofs.fill.put.Tie as tie
 
@@ -20,16 +21,6 @@ abbrev μ-loop : tie.MeasureT-loop
 
 loop-holds : tie.Need-loop-holds Inv-loop μ-loop
 loop-holds c = (lit≤ tt, paste-zero _ (c .args .at) [], refl)
-
-add-out : tie.Need-add-out Inv-loop μ-loop
-add-out c =
-    let s = c .before .before in
-    sixteen-fits _ _ _ (c .loop-test .taken) (s .pre) (s .good .0 .0)
-
-slice-write-out : tie.Need-slice-write-out Inv-loop μ-loop
-slice-write-out c =
-    let s = c .before .before in
-    sixteen-within (s .args .at) _ _ (c .loop-test .taken) (s .pre) _ (c .before .loop .inv .2)
 
 loop-again : tie.Need-loop-again Inv-loop μ-loop
 loop-again c =
@@ -55,9 +46,9 @@ put-spec =
     μ-loop
     loop-holds
     (λ c. c .loop-test .taken)
-    add-out
-    slice-write-out
-    (λ c. next-fits 16 _ (lit≤ tt) (c .loop-test .taken))
+    (λ c. sixteen-fits _ _ _ (c .loop-test .taken) (c .before .before .pre) (c .before .before .good .0 .0))
+    (λ c. sixteen-within _ _ _ (c .loop-test .taken) (c .before .before .pre) _ (c .before .loop .inv .2))
+    (λ c. fits-below tt (next-within 16 _ (c .loop-test .taken)))
     (λ c. falls 16 _ (c .loop-test .taken))
     loop-again
     (λ c. c .before .loop .inv .2)
