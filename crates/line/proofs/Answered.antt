@@ -32,11 +32,11 @@ use Rattle.line.specs.Prints.{fullMask, askedOf, refusalOf}
 -- a number whose test cannot hold where none before it does may be left out
 first-without : (test : ℕ → Bool) (xs ys : List ℕ) (k : ℕ) → (first test xs ≡ 0 → test k ≡ false)
     → first test (xs ++ k ∷ ys) ≡ first test (xs ++ ys)
-first-without test xs ys k h = by-number (first test xs) refl
+first-without test xs ys k h = by-first (first test xs) refl
   where
-    by-number : (n : ℕ) → first test xs ≡ n → first test (xs ++ k ∷ ys) ≡ first test (xs ++ ys)
-    by-number zero e = first-insert test xs ys k (h e)
-    by-number (suc n) e = first-stop test xs (k ∷ ys) (λ z. omega arith) ∙ sym (first-stop test xs ys (λ z. omega arith))
+    by-first : (n : ℕ) → first test xs ≡ n → first test (xs ++ k ∷ ys) ≡ first test (xs ++ ys)
+    by-first zero e = first-insert test xs ys k (h e)
+    by-first (suc n) e = first-stop test xs (k ∷ ys) (λ z. omega arith) ∙ sym (first-stop test xs ys (λ z. omega arith))
 
 -- what every number of the list and 0 pass, the first does
 pub first-passes : (f test : ℕ → Bool) → T (f 0) → (ks : List ℕ) → T (each f ks) → T (f (first test ks))

@@ -25,14 +25,14 @@ compose-requires c κs = (may (c .before), lit≤ tt)
 returns-2 : tie.Need-returns-2
 returns-2 c =
     let copied = c .before .before .before in
-    let composed = copied .before .before .before .before in
-    writes-composed (may (composed .before .before)) (composed .compose .ensures) (copied .copy .ensures) (rw (c .if2 .taken))
+    let text = copied .before .before .before .before in
+    writes-composed (may (text .before .before)) (text .compose .ensures) (copied .copy .ensures) (rw (c .if2 .taken))
 
 returns-3 : tie.Need-returns-3
 returns-3 c =
     let copied = c .before .before .before in
-    let composed = copied .before .before .before .before in
-    writes-composed (may (composed .before .before)) (composed .compose .ensures) (copied .copy .ensures) (rw (c .if2 .left))
+    let text = copied .before .before .before .before in
+    writes-composed (may (text .before .before)) (text .compose .ensures) (copied .copy .ensures) (rw (c .if2 .left))
 
 pub answer-spec : {M : Type 1} → statement M
 answer-spec =

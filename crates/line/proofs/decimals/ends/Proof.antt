@@ -22,8 +22,8 @@ returns c =
 returns-2 : tie.Need-returns-2
 returns-2 c =
     let s = c .before .before .before .before in
-    let large = lt-leb (value (next (drop (s .args .from) (s .args .line .now)))) 65535 (omega (arith, s .pre .value)) in
-    rw (ended-next _ _, large, and-nothing _)
+    let big = lt-leb (value (next (drop (s .args .from) (s .args .line .now)))) 65535 (omega (arith, s .pre .value)) in
+    rw (ended-next _ _, big, and-nothing _)
 
 returns-3 : tie.Need-returns-3
 returns-3 c =

@@ -11,7 +11,8 @@ use Rattle.text.proofs.write.lines.Statement.{statement}
 use Rattle.text.proofs.write.lines.Tie as tie
 
 abbrev Inv-loop : tie.InvT-loop
-Inv-loop phases p v at out₀ n k₀ i₀ out k i = (i ≤ v * p) × Adds (linesBegun p i phases) at out₀ k out × (k ≤ at + 4 * i)
+Inv-loop phases p v at out₀ n k₀ i₀ out k i =
+    (i ≤ v * p) × Adds (linesBegun p i phases) at out₀ k out × (k ≤ at + 4 * i)
 
 abbrev μ-loop : tie.MeasureT-loop
 μ-loop phases p v at out₀ n k₀ i₀ out k i = v * p - i
