@@ -77,6 +77,9 @@ module _ (r : Report) where
       (cond-both (λ (ks : List Beam). length ks ≡ 3) (ltb 1 (r .n2)) refl refl)
       (cond-each length (eqb (r .v) 1 || isHalf r) refl refl))
 
+  pub offsets-some : 1 ≤ length (offsets r)
+  offsets-some = rw length-offsets (counted-some (r .v) (eqb (r .v) 1 || isHalf r))
+
   pub offsets-few : length (offsets r) ≤ 4
   offsets-few =
       let few : ℕ → Type 0 = λ n. n ≤ 4 in

@@ -99,8 +99,7 @@ fn choose_many(r: Report, s: Sizes, x: Beam, a: Beam) -> Beams
 {
     let b = moved_by(r, s, x, Beam { l: 1, m: 0 });
     if r.v <= 6 {
-        let place = 2 + (r.n2 + 2) / 4;
-        let c = moved_by(r, s, x, rows::k_at(r.n2, place, 4));
+        let c = moved_by(r, s, x, rows::k_third(r.n2));
         return said(r, s, false, 3, a, b, c, Beam { l: 0, m: 0 });
     }
     let c = moved_by(r, s, x, rows::k_at(r.n2, 2, 4));

@@ -1,4 +1,4 @@
-// The row of k for i13, which tells how far B' stands from B at v = 2 to 4, in steps of (O1,O2).
+// How far B', B'' and B''' stand from B, in steps of (O1,O2): at v = 2 to 4 by the row of k for i13.
 use crate::Report;
 use settings::Beam;
 ghost use mathlib.Core.Path.{_≡_};
@@ -22,6 +22,16 @@ pub fn k_at(n2: u32, j: u32, last: u32) -> Beam
         return Beam { l: 2, m: 0 };
     }
     Beam { l: j % 2, m: j / 2 }
+}
+
+// The step of B'' at v = 5 and 6.
+pub fn k_third(n2: u32) -> Beam
+    ensures { λ k. ⌜ k ≡ (ltb 1 n2 ⇒ beam 1 1 ∣ beam 2 0) ⌝ }
+{
+    if n2 <= 1 {
+        return Beam { l: 2, m: 0 };
+    }
+    Beam { l: 1, m: 1 }
 }
 
 // The row for i13 at v = 2 to 4, above two ports and without half-length beams. Those of v = 3 and 4 stand after (0,0).

@@ -34,7 +34,7 @@ byRank s n1 n2 mode v =
     ∣ leb v 4 ⇒ (
       leb 16 (s .ports) ⇒ s .across / 2 ∣ s .across,
       s .down,
-      leb 16 (s .ports) ⇒ 4 ∣ eqb (s .ports) 8 ⇒ 3 ∣ s .ports / 3,
+      leb 16 (s .ports) ⇒ 4 ∣ eqb (s .ports) 8 ⇒ 3 ∣ eqb (s .ports) 4 ⇒ 1 ∣ 4,
       2,
     )
     ∣ leb v 6 ⇒ (s .across, s .down, 1, 2)

@@ -138,7 +138,7 @@ pub fn three_or_four(s: Sizes) -> Ranges
       sizes = s;
       i11 = leb 16 (s .ports) ⇒ s .across / 2 ∣ s .across;
       i12 = s .down;
-      i13 = leb 16 (s .ports) ⇒ 4 ∣ eqb (s .ports) 8 ⇒ 3 ∣ s .ports / 3;
+      i13 = leb 16 (s .ports) ⇒ 4 ∣ eqb (s .ports) 8 ⇒ 3 ∣ eqb (s .ports) 4 ⇒ 1 ∣ 4;
       i2 = 2;
     } ⌝ }
 {
@@ -155,7 +155,10 @@ pub fn three_or_four(s: Sizes) -> Ranges
     if p == 8 {
         return plain(s, 3);
     }
-    plain(s, p / 3)
+    if p == 4 {
+        return plain(s, 1);
+    }
+    plain(s, 4)
 }
 
 // Seven and eight layers. With N2 other than 2, (4,1) alone has eight ports.

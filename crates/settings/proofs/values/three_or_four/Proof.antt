@@ -14,8 +14,22 @@ returns-2 c =
 
 returns-3 : tie.Need-returns-3
 returns-3 c =
-    let l = c .before in
-    rw (c .plain2 .ensures, lt-leb 16 _ (l .before .if1 .left), ne-eqb _ 8 (l .if2 .left))
+    let l = c .before .before in
+    rw (c .plain2 .ensures, lt-leb 16 _ (l .before .if1 .left), ne-eqb _ 8 (l .if2 .left), eq-eqb _ 4 (c .before .if3 .taken))
+
+returns-4 : tie.Need-returns-4
+returns-4 c =
+    let l = c .before .before in
+    rw (c .plain3 .ensures, lt-leb 16 _ (l .before .if1 .left), ne-eqb _ 8 (l .if2 .left), ne-eqb _ 4 (c .before .if3 .left))
 
 pub three-or-four-spec : {M : Type 1} → statement M
-three-or-four-spec = tie.close (tie.spec returns (λ c κs. search needs) returns-2 (λ c κs. search needs) returns-3)
+three-or-four-spec =
+    tie.close
+    (tie.spec
+    returns
+    (λ c κs. search needs)
+    returns-2
+    (λ c κs. search needs)
+    returns-3
+    (λ c κs. search needs)
+    returns-4)
