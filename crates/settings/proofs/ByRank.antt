@@ -29,8 +29,12 @@ second s v = eqb v 1 ⇒ 1 ∣ ltb (s .ports) 8 ⇒ s .ports / 2 ∣ 4
 
 unfoldable pub byRank : Sizes → ℕ → ℕ → ℕ → ℕ → Values
 byRank s n1 n2 mode v =
-    leb v 2 ⇒ (modeTwo n1 mode v ⇒ (s .across / 2, s .down - s .down / 2, second s v, eqb v 1 ⇒ 16 ∣ 8)
-    ∣ (s .across, s .down, second s v, eqb v 1 ⇒ 4 ∣ 2))
+    leb v 2 ⇒ (
+      modeTwo n1 mode v ⇒ s .across / 2 ∣ s .across,
+      modeTwo n1 mode v ⇒ s .down - s .down / 2 ∣ s .down,
+      second s v,
+      modeTwo n1 mode v ⇒ (eqb v 1 ⇒ 16 ∣ 8) ∣ (eqb v 1 ⇒ 4 ∣ 2),
+    )
     ∣ leb v 4 ⇒ (
       leb 16 (s .ports) ⇒ s .across / 2 ∣ s .across,
       s .down,

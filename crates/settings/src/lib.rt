@@ -124,10 +124,7 @@ pub fn ranges_of(n1: u32, n2: u32, mode: u32, v: u32) -> Ranges
         };
     }
     if v <= 2 {
-        if values::is_mode_two(n1, mode, v) {
-            return values::in_mode_two(v, s);
-        }
-        return values::in_mode_one(v, s);
+        return values::one_or_two(n1, mode, v, s);
     }
     if v <= 4 {
         return values::three_or_four(s);

@@ -80,7 +80,7 @@ fn second_beams(p: u32) -> u32
 }
 
 // One and two layers where mode 2 acts. One beam down is not halved.
-pub fn in_mode_two(v: u32, s: Sizes) -> Ranges
+fn in_mode_two(v: u32, s: Sizes) -> Ranges
     ensures { λ a. ⌜ a ≡ record {
       sizes = s;
       i11 = s .across / 2;
@@ -109,16 +109,19 @@ pub fn in_mode_two(v: u32, s: Sizes) -> Ranges
     }
 }
 
-// One and two layers where it does not act.
-pub fn in_mode_one(v: u32, s: Sizes) -> Ranges
+// One and two layers.
+pub fn one_or_two(n1: u32, mode: u32, v: u32, s: Sizes) -> Ranges
     ensures { λ a. ⌜ a ≡ record {
       sizes = s;
-      i11 = s .across;
-      i12 = s .down;
+      i11 = modeTwo n1 mode v ⇒ s .across / 2 ∣ s .across;
+      i12 = modeTwo n1 mode v ⇒ s .down - s .down / 2 ∣ s .down;
       i13 = eqb v 1 ⇒ 1 ∣ ltb (s .ports) 8 ⇒ s .ports / 2 ∣ 4;
-      i2 = eqb v 1 ⇒ 4 ∣ 2;
+      i2 = modeTwo n1 mode v ⇒ (eqb v 1 ⇒ 16 ∣ 8) ∣ (eqb v 1 ⇒ 4 ∣ 2);
     } ⌝ }
 {
+    if is_mode_two(n1, mode, v) {
+        return in_mode_two(v, s);
+    }
     if v == 1 {
         return Ranges {
             sizes: s,
@@ -131,8 +134,7 @@ pub fn in_mode_one(v: u32, s: Sizes) -> Ranges
     plain(s, second_beams(s.ports))
 }
 
-// Three and four layers. Beams are of half length from 16 ports on. Below, p / 3 gives four ports one row of k, and twelve
-// ports four.
+// Three and four layers. Beams are of half length from 16 ports on.
 pub fn three_or_four(s: Sizes) -> Ranges
     ensures { λ a. ⌜ a ≡ record {
       sizes = s;

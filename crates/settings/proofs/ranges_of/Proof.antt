@@ -34,41 +34,31 @@ returns c = rw (c .before .before .sizes-of .ensures, tested (c .before) ∙ not
 returns-2 : tie.Need-returns-2
 unfolding byRank
 returns-2 c =
-    let m = c .before in
-    let t = m .before .before in
-    let acts = sym (m .before .is-mode-two .ensures) ∙ m .if3 .taken in
-    right (t .before) (rw (c .in-mode-two .ensures, le-leb _ 2 (t .if2 .taken), acts))
+    let t = c .before in
+    right (t .before) (rw (c .one-or-two .ensures, le-leb _ 2 (t .if2 .taken)))
 
 returns-3 : tie.Need-returns-3
 unfolding byRank
 returns-3 c =
-    let m = c .before in
-    let t = m .before .before in
-    let idle = sym (m .before .is-mode-two .ensures) ∙ m .if3 .left in
-    right (t .before) (rw (c .in-mode-one .ensures, le-leb _ 2 (t .if2 .taken), idle))
+    let t = c .before in
+    let l = t .before in
+    right (l .before) (rw (c .three-or-four .ensures, lt-leb _ 2 (l .if2 .left), le-leb _ 4 (t .if3 .taken)))
 
 returns-4 : tie.Need-returns-4
 unfolding byRank
 returns-4 c =
     let t = c .before in
-    let l = t .before in
-    right (l .before) (rw (c .three-or-four .ensures, lt-leb _ 2 (l .if2 .left), le-leb _ 4 (t .if4 .taken)))
+    let l = t .before .before in
+    let four = lt-leb _ 4 (t .before .if3 .left) in
+    right (l .before) (rw (c .plain .ensures, lt-leb _ 2 (l .if2 .left), four, le-leb _ 6 (t .if4 .taken)))
 
 returns-5 : tie.Need-returns-5
 unfolding byRank
 returns-5 c =
-    let t = c .before in
-    let l = t .before .before in
-    let four = lt-leb _ 4 (t .before .if4 .left) in
-    right (l .before) (rw (c .plain .ensures, lt-leb _ 2 (l .if2 .left), four, le-leb _ 6 (t .if5 .taken)))
-
-returns-6 : tie.Need-returns-6
-unfolding byRank
-returns-6 c =
     let m = c .before in
     let l = m .before .before in
-    let four = lt-leb _ 4 (m .before .if4 .left) in
-    right (l .before) (rw (c .seven-or-eight .ensures, lt-leb _ 2 (l .if2 .left), four, lt-leb _ 6 (m .if5 .left)))
+    let four = lt-leb _ 4 (m .before .if3 .left) in
+    right (l .before) (rw (c .seven-or-eight .ensures, lt-leb _ 2 (l .if2 .left), four, lt-leb _ 6 (m .if4 .left)))
 
 pub ranges-of-spec : {M : Type 1} → statement M
 ranges-of-spec =
@@ -78,13 +68,10 @@ ranges-of-spec =
     (λ c κs. search needs)
     returns
     (λ c κs. search needs)
-    (λ c κs. search needs)
     returns-2
     (λ c κs. search needs)
     returns-3
     (λ c κs. search needs)
     returns-4
     (λ c κs. search needs)
-    returns-5
-    (λ c κs. search needs)
-    returns-6)
+    returns-5)
