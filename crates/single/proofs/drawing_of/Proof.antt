@@ -1,5 +1,5 @@
 -- `drawing_of` meets its contract: its fields are the drawing's, by the length of the beams.
-use Rattle.single.proofs.Layers.{ranked}
+use Rattle.report.proofs.InRange.{v-some, v-few}
 use Rattle.single.proofs.Handed.{handed-half, handed-whole}
 use borrow.Author.Needs.{needs}
 use Rattle.single.proofs.drawing_of.Statement.{statement}
@@ -14,8 +14,8 @@ returns c =
 
 codes-of-requires : tie.Need-codes-of-requires
 codes-of-requires c κs =
-    let v = ranked _ (c .before .before .before .pre .0) in
-    (v .v-some, v .v-few)
+    let h = c .before .before .before .pre .0 in
+    (v-some _ h, v-few _ h)
 
 returns-2 : tie.Need-returns-2
 returns-2 c =
