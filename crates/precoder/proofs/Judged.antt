@@ -24,9 +24,8 @@ use Rattle.plan.proofs.Answers as answers
 use Rattle.single.specs.Plan.{plan}
 use Rattle.single.specs.Single.{order, single}
 use Rattle.single.specs.Drawing.{drawingOf}
-use Rattle.single.proofs.Lawful.{single-lawful}
+use Rattle.single.proofs.Lawful.{single-lawful, accepted-in-range}
 use Rattle.single.proofs.Drawn.{drawing-draws}
-use Rattle.single.proofs.Judged.{accepted-in-range}
 use Rattle.render.specs.Rendered.{fitting, weightsIn}
 use Rattle.precoder.proofs.Planned as written
 

@@ -1,5 +1,5 @@
--- The single-panel codebook is lawful: what is left where no rule applies, and which bits its reports read.
-use mathlib.Core.Path.{_≡_, sym, subst}
+-- The single-panel codebook is lawful, and a report that it does not refuse is in range.
+use mathlib.Core.Path.{_≡_}
 use mathlib.Core.Logic.{inl, inr}
 use mathlib.Core.Bool.{true, false, not}
 use mathlib.Core.List.{List, [], _∷_, map}
@@ -12,10 +12,11 @@ use borrow.Author.Tests.{eqb-true, eqb-false, not-true}
 use Rattle.ground.specs.Lists.{among}
 use Rattle.ground.specs.First.{numbered, part}
 use Rattle.ground.proofs.Booleans.{cond-both}
+use Rattle.ground.proofs.First.{first-none}
 use Rattle.ground.proofs.Tests.{or-cases}
 use Rattle.ground.proofs.Lists.{among-at}
 use Rattle.settings.specs.declared.Beam.{Beam}
-use Rattle.settings.specs.Settings.{isSetting, twoPorts, across, down, maskBytes}
+use Rattle.settings.specs.Settings.{twoPorts, across, down, maskBytes}
 use Rattle.settings.specs.Ranges.{beam}
 use Rattle.settings.proofs.Known.{mask-bits}
 use Rattle.report.specs.declared.Report.{Report}
@@ -25,10 +26,12 @@ use Rattle.report.proofs.InRange.{in-range, in-range-none, two-ports-i2}
 use Rattle.report.proofs.Offsets.{length-beams}
 use Rattle.report.proofs.Reached.{Reached, beams-within}
 use Rattle.plan.specs.Plan.{layerAt}
+use Rattle.plan.specs.Answer.{asked, test, refusal}
 use Rattle.plan.specs.Lawful.{Lawful}
+use Rattle.plan.proofs.Calls.{rules-passed}
 use Rattle.single.specs.Plan.{plan}
 use Rattle.single.specs.Masks.{beamBit, twoPortBit, bitsRead}
-use Rattle.single.specs.Single.{single}
+use Rattle.single.specs.Single.{order, single}
 use Rattle.single.proofs.Layers.{either, placeAt, layer-is, place-within}
 use Rattle.single.proofs.Sound.{plan-sound}
 
@@ -79,3 +82,9 @@ single-lawful = record {
   within = within;
   reads = reads;
 }
+
+pub accepted-in-range : (r : Report) (mask : List ℕ) (ranks room : ℕ) → refusal single (asked r mask ranks room) ≡ 0 → InRange r
+unfolding refusal
+accepted-in-range r mask ranks room e =
+    let q = asked r mask ranks room in
+    single-lawful .in-range r .0 (rules-passed single q (first-none (test single q) order (single-lawful .numbers) e))
