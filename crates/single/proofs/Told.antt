@@ -26,7 +26,7 @@ use Rattle.report.specs.Rules.{InRange}
 use Rattle.report.specs.Beams.{isHalf, base, offsets, moved, beams}
 use Rattle.plan.specs.Plan.{layerAt}
 use Rattle.plan.specs.Sound.{Moved, Told, by-co-phases, by-beams}
-use Rattle.single.specs.Columns.{Added, o, ½, f, f+½, Bracket, place, phaseOf, quarters}
+use Rattle.single.specs.Columns.{Added, o, ½, f, f+½, place, phaseOf, quarters}
 use Rattle.single.specs.Plan.{fOf, tOf, withBeam, whole, blockOf, plan}
 use Rattle.single.proofs.Layers.{either, two-eq, halved, bracket, halves, layer-is, place-within}
 use Rattle.single.proofs.Apart.{balanced, marks, marked, marks-even, takesF, second, distinct, layers-apart}
