@@ -1,6 +1,6 @@
 -- Four frauds, each against what is demanded of an accepted report, on worked reports: refuse everything, a fixed matrix,
 -- the buffer as lent, layer 1 alone.
-use mathlib.Core.Path.{_≡_, refl, ap, _∙_}
+use mathlib.Core.Path.{_≡_, refl, ap}
 use mathlib.Core.Logic.{_≢_}
 use mathlib.Core.List.{List, [], _∷_, _++_}
 use Prim.Native.Nat.{ℕ, _*_}
@@ -58,9 +58,7 @@ module _ {r : Report} {room : ℕ} {phases : List ℕ} (known : Known r room pha
       (first-none (test single (asked r (ones 1) 255 (length (fresh room)))) _ tt (known .passes))
 
   holds : left ≡ phases ++ drop (plan r .v * plan r .ports) (fresh room)
-  holds =
-      single-demanded r (ones 1) 255 .accepted-as-matrix call accepted .0
-      ∙ ap (λ (xs : List ℕ). xs ++ drop (plan r .v * plan r .ports) (fresh room)) (known .written)
+  holds = rw (known .written) at (single-demanded r (ones 1) 255 .accepted-as-matrix call accepted .0)
 
 -- ---- the frauds
 
