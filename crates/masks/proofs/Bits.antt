@@ -2,7 +2,7 @@
 use mathlib.Core.Path.{_≡_, refl, sym}
 use mathlib.Core.Bool.{Bool, false, _||_}
 use mathlib.Core.List.{List}
-use Prim.Native.Nat.{ℕ, zero, suc, _+_, _*_, _≤_}
+use Prim.Native.Nat.{ℕ, suc, _+_, _-_, _*_, _≤_}
 use native.Mathlib.Nat.{min-le-left}
 use native.Mathlib.Omega.{arith}
 use lib.ListN.{length, getD, drop, length-take, length-drop, drop-of-length-le}
@@ -27,24 +27,17 @@ module _ (mask : List ℕ) (width : ℕ) (l m : List ℕ) where
 
   pub from-second : (n : ℕ) → 2 ≤ n → zeroFrom 1 n ≡ (zeroAt 1 || zeroFrom 2 n)
   unfolding barred some bitsOf
-  from-second zero h = absurd (omega arith)
-  from-second (suc zero) h = absurd (omega arith)
-  from-second (suc (suc n)) h = refl
+  from-second n h = let e : n ≡ suc (suc (n - 2)) = omega arith in rw e
 
   pub from-third : (n : ℕ) → 3 ≤ n → zeroFrom 2 n ≡ (zeroAt 2 || zeroFrom 3 n)
   unfolding barred some bitsOf
-  from-third zero h = absurd (omega arith)
-  from-third (suc zero) h = absurd (omega arith)
-  from-third (suc (suc zero)) h = absurd (omega arith)
-  from-third (suc (suc (suc n))) h = refl
+  from-third n h = let e : n ≡ suc (suc (suc (n - 3))) = omega arith in rw e
 
   pub from-fourth : (n : ℕ) → 4 ≤ n → zeroFrom 3 n ≡ zeroAt 3
   unfolding barred some bitsOf
-  from-fourth zero h = absurd (omega arith)
-  from-fourth (suc zero) h = absurd (omega arith)
-  from-fourth (suc (suc zero)) h = absurd (omega arith)
-  from-fourth (suc (suc (suc zero))) h = absurd (omega arith)
-  from-fourth (suc (suc (suc (suc n)))) h = rw (take-nil {A = ℕ} n) (sym (or-nothing (zeroAt 3)))
+  from-fourth n h =
+      let e : n ≡ suc (suc (suc (suc (n - 4)))) = omega arith in
+      rw (e, take-nil {A = ℕ} (n - 4)) (sym (or-nothing (zeroAt 3)))
 
   -- past the beams there is none
   pub none-past : (i n : ℕ) → n ≤ suc i → zeroFrom (suc i) n ≡ false

@@ -1,7 +1,7 @@
 -- A report that was judged: refused it leaves all as lent, and else what is written of its drawing is the answer.
-use mathlib.Core.Path.{_≡_, refl, sym, ap, _∙_, subst}
+use mathlib.Core.Path.{_≡_, refl, sym, subst}
 use mathlib.Core.Bool.{Bool, true}
-use mathlib.Core.List.{List, map}
+use mathlib.Core.List.{List}
 use Prim.Native.Nat.{ℕ, _*_, _/_, _%_, _≤_}
 use native.Mathlib.Omega.{arith}
 use lib.IntN.{ℤ}
@@ -9,12 +9,9 @@ use lib.ListN.{length}
 use borrow.Author.Tests.{ltb-false}
 use Rattle.ground.specs.Lists.{over}
 use Rattle.ground.proofs.First.{first-none}
-use Rattle.weight.specs.Table.{weight, numbers}
 use Rattle.report.specs.declared.Report.{Report}
 use Rattle.report.specs.Rules.{InRange}
 use Rattle.report.proofs.InRange.{v-some, v-fits}
-use Rattle.plan.specs.declared.Record.{Record}
-use Rattle.plan.specs.declared.Drawing.{Drawing}
 use Rattle.plan.specs.declared.Judged.{Judged}
 use Rattle.plan.specs.Plan.{matrix}
 use Rattle.plan.specs.Sound.{Sound}
@@ -24,9 +21,8 @@ use Rattle.plan.proofs.Answers as answers
 use Rattle.single.specs.Plan.{plan}
 use Rattle.single.specs.Single.{order, single}
 use Rattle.single.specs.Drawing.{drawingOf}
-use Rattle.single.proofs.Lawful.{single-lawful}
+use Rattle.single.proofs.Lawful.{single-lawful, accepted-in-range}
 use Rattle.single.proofs.Drawn.{drawing-draws}
-use Rattle.single.proofs.Judged.{accepted-in-range}
 use Rattle.render.specs.Rendered.{fitting, weightsIn}
 use Rattle.precoder.proofs.Planned as written
 
@@ -60,18 +56,15 @@ module _ (r : Report) (mask : List ℕ) (ranks room : ℕ) {c : Judged}
         let none = first-none (test single (asked r mask ranks room)) order (single-lawful .numbers) (accepted .0) in
         ltb-false room (plan r .v * plan r .ports) (none .at 11 (single-lawful .last-two .1))
 
-    ports-are : c .given .ports ≡ plan r .ports
-    ports-are = ap (λ (x : Record). x .ports) (accepted .1)
-
     pub ports-some : 1 ≤ c .given .ports
-    ports-some = omega (arith, ports-are, v-some r in-range, v-fits r in-range)
+    ports-some = rw (accepted .1) (omega (arith, v-some r in-range, v-fits r in-range))
 
     -- what is written is the answer of `phases`
     pub phases-answer : {lent left : List ℕ} → length lent ≡ room → left ≡ over (fitting (c .drawing) (length lent)) lent
         → Answers number (planned (plan r)) (matrix (plan r)) lent (c .given) left
     phases-answer {lent} l f =
-        answers.answers-accepted number (planned (plan r)) refl (drawingOf r) e z (matrix (plan r)) lent _ refl
-        (f ∙ ap (λ (xs : List ℕ). over xs lent) (written.fitting-is (plan r) (c .drawing) sound draws (length lent) (omega (arith, fits))))
+        let is = written.fitting-is (plan r) (c .drawing) sound draws (length lent) (omega (arith, fits)) in
+        answers.answers-accepted number (planned (plan r)) refl (drawingOf r) e z (matrix (plan r)) lent _ refl (rw is at f)
 
     -- and of `weights`
     pub weights-answer : {lent left : List ℤ} (coarse : Bool) → (coarse ≡ true → 16 % c .given .ports ≡ 0)
@@ -79,7 +72,6 @@ module _ (r : Report) (mask : List ℕ) (ranks room : ℕ) {c : Judged}
         → Answers number (planned (plan r)) (weightsOf single r) lent (c .given) left
     unfolding weightsOf
     weights-answer {lent} coarse d l f =
-        let are = written.weights-are (plan r) (c .drawing) sound draws coarse
-        (λ t. subst (λ (p : ℕ). 16 % p ≡ 0) ports-are (d t)) (length lent) (omega (arith, fits)) in
-        answers.answers-accepted number (planned (plan r)) refl (drawingOf r) e z (numbers (map weight (matrix (plan r)))) lent _
-        refl (f ∙ ap (λ (ns : List ℤ). over ns lent) are)
+        let are = written.weights-are (plan r) (c .drawing) sound draws coarse (λ t. rw (accepted .1) at (d t)) (length lent)
+        (omega (arith, fits)) in
+        answers.answers-accepted number (planned (plan r)) refl (drawingOf r) e z (weightsOf single r) lent _ refl (rw are at f)

@@ -45,35 +45,22 @@ asks n1 n2 mode v i11 i12 i13 i2 =
 abbrev pub ones : ℕ → List ℕ
 ones bytes = replicate bytes 255
 
--- a buffer as it is lent: no phase
-lent : ℕ → List ℕ
-lent room = replicate room 255
+-- a buffer of so many entries as it is lent: no phase
+abbrev pub fresh : ℕ → List ℕ
+fresh room = replicate room 255
 
--- accepted, with some of its entries; all bits of the rank mask are ones
+-- a row in which all bits of the rank mask are ones
+abbrev row : Report → List ℕ → ℕ → Record → ℕ → List ℕ → Row
+row r mask room given place entries =
+    record { report = r; mask = mask; ranks = 255; room = room; given = given; place = place; entries = entries }
+
+-- accepted, with some of its entries
 abbrev accepts : Report → List ℕ → ℕ → ℕ → ℕ → ℕ → List ℕ → Row
-accepts r mask p v scale place entries =
-    record {
-      report = r;
-      mask = mask;
-      ranks = 255;
-      room = scale;
-      given = record { refusal = 0; ports = p; layers = v; scale = scale };
-      place = place;
-      entries = entries;
-    }
+accepts r mask p v scale = row r mask scale (record { refusal = 0; ports = p; layers = v; scale = scale })
 
 -- refused, and the whole buffer as lent
 abbrev refuses : Report → List ℕ → ℕ → ℕ → Row
-refuses r mask room k =
-    record {
-      report = r;
-      mask = mask;
-      ranks = 255;
-      room = room;
-      given = refused k;
-      place = 0;
-      entries = lent room;
-    }
+refuses r mask room k = row r mask room (refused k) 0 (fresh room)
 
 pub reports : List Row
 reports =
@@ -111,20 +98,9 @@ reports =
 pub said : Row → Record × List ℕ
 said x = (x .given, x .entries)
 
--- what the definitions give
-number : Row → ℕ
-number x = refusal single (asked (x .report) (x .mask) (x .ranks) (x .room))
-
-left : Row → List ℕ
-left x = bufferOf (number x) (matrix (plan (x .report))) (lent (x .room))
-
-pub defined : Row → Record × List ℕ
-defined x = (recordOf (planned (plan (x .report))) (number x), take (length (x .entries)) (drop (x .place) (left x)))
-
--- row by row
-pub worked : map defined reports ≡ map said reports
+-- what the definitions give; it is computed with all of them
+unfoldable pub defined : Row → Record × List ℕ
 unfolding
-    reports lent said number left defined
     steps product grid step beam column
     some join first settings isSetting maskBytes byRank quarters
     modeTwo halfLength n base kTwo kThree kRows offsets moved beams
@@ -132,23 +108,24 @@ unfolding
     whole quartered layers columnOf matrix
     bit twoPortBit bitsRead isZero barred rankBarred
     rule early test refusal
+defined x =
+    let number = refusal single (asked (x .report) (x .mask) (x .ranks) (x .room)) in
+    let left = bufferOf number (matrix (plan (x .report))) (fresh (x .room)) in
+    (recordOf (planned (plan (x .report))) number, take (length (x .entries)) (drop (x .place) left))
+
+-- row by row
+pub worked : map defined reports ≡ map said reports
+unfolding reports said defined
 worked = refl
 
 -- case 4: layers 1 and 2 differ by 0, a third and two thirds of a turn, four of the twelve ports each
 pub case-four : let w = matrix (plan (asks 3 2 1 3 0 0 3 0)) in
     map (count (differences (take 12 w) (take 12 (drop 12 w)))) (0 ∷ third ∷ 2 * third ∷ []) ≡ 4 ∷ 4 ∷ 4 ∷ []
-unfolding
-    steps product grid step beam column count difference differences
-    join byRank modeTwo halfLength n base kThree kRows offsets moved beams
-    whole layers columnOf matrix
+unfolding defined count difference differences
 case-four = refl
 
 -- case 1 in weights
 pub case-one-weights : weightsOf single (asks 2 1 1 1 1 0 0 1)
     ≡ pos 16384 ∷ pos 0 ∷ pos 11585 ∷ pos 11585 ∷ pos 0 ∷ pos 16384 ∷ negℤ (pos 11585) ∷ pos 11585 ∷ []
-unfolding
-    steps product grid step beam column
-    join byRank modeTwo halfLength n base kRows offsets moved beams
-    whole layers columnOf matrix
-    firstQuarter firstHalf xs ys table zipWith weight numbers weightsOf
+unfolding defined firstQuarter firstHalf xs ys table zipWith weight numbers weightsOf
 case-one-weights = refl

@@ -1,6 +1,6 @@
 -- How any two layers of a report are told apart: tests computed over all settings, ranks and rows of k.
 use mathlib.Core.Path.{_≡_, subst}
-use mathlib.Core.Bool.{Bool, true, false, not, Bool·beq, _&&_, _||_}
+use mathlib.Core.Bool.{Bool, true, false, cond, not, Bool·beq, _&&_, _||_}
 use mathlib.Core.List.{List, [], _∷_}
 use mathlib.Core.Logic.{_≢_}
 use Prim.Native.Nat.{ℕ, _%_, _<_}
@@ -17,8 +17,9 @@ use Rattle.settings.proofs.Known.{at-setting}
 use Rattle.report.specs.declared.Report.{Report}
 use Rattle.report.specs.Rules.{InRange}
 use Rattle.report.specs.Beams.{isHalf, offsets}
+use Rattle.report.proofs.InRange.{v-few, v-fits}
 use Rattle.single.specs.Columns.{Added, o, ½, f, f+½, Bracket, byRank, place}
-use Rattle.single.proofs.Layers.{ranked, bracket}
+use Rattle.single.proofs.Layers.{bracket}
 
 -- two rows of marks agree as often as they differ
 abbrev pub balanced : List Bool → List Bool → Bool
@@ -37,18 +38,15 @@ marks =
 abbrev pub marked : ℕ → List Bool
 marked j = getD marks j []
 
-length-marked : (j : ℕ) → j < 4 → length (marked j) ≡ 4
-unfolding every
-length-marked j h = eqb→eq (length (marked j)) 4 (every-at 4 (λ j. eqb (length (marked j)) 4) tt j h)
-
 pub marks-even : (j k : ℕ) → j < 4 → k < 4 → j ≢ k → Even 4 (marked j) (marked k)
 unfolding agreeing differing every
 marks-even j k hj hk ne =
     let pair : ℕ → ℕ → Bool = λ j k. eqb j k || balanced (marked j) (marked k) in
     let test = every-at 4 (pair j) (every-at 4 (λ j. every 4 (pair j)) tt j hj) k hk in
+    let long = every-at 4 (λ j. eqb (length (marked j)) 4) tt in
     record {
-      first = length-marked j hj;
-      second = length-marked k hk;
+      first = eqb→eq _ 4 (long j hj);
+      second = eqb→eq _ 4 (long k hk);
       even = eqb→eq _ _ (or-else (eqb j k) (balanced (marked j) (marked k)) (λ t. ne (eqb→eq j k t)) test);
     }
 
@@ -107,22 +105,17 @@ settings-apart : T (each (λ s. settingApart (s .0) (s .1)) settings)
 unfolding settings each every byRank offsets halfLength kRows kTwo kThree agreeing differing
 settings-apart = tt
 
-module _ (r : Report) (h : InRange r) (e : isHalf r ≡ false) where
-  i13-row : r .i13 < length (kRows (r .n1) (r .n2) (r .v))
-  unfolding i13Values
-  i13-row = rw e at (h .i13)
-
-  pub layers-apart : (j k : ℕ) → j < r .v → k < r .v → j ≢ k
-      → T (apart (r .n1) (r .n2) (offsets r) (bracket (r .v) j) (bracket (r .v) k))
-  unfolding offsets halfLength kRows
-  layers-apart j k hj hk ne =
-      let p = ports (r .n1) (r .n2) in
-      let n = length (kRows (r .n1) (r .n2) (r .v)) in
-      let row = rowApart (r .n1) (r .n2) (r .v) in
-      let setting = at-setting (r .n1) (r .n2) settingApart settings-apart (h .setting) in
-      let rank = every-at 9 (rankApart (r .n1) (r .n2)) setting (r .v) (omega (arith, ranked r h .v-few)) in
-      let fits = or-else (ltb p (r .v)) _ (λ t. let many = ltb→lt p (r .v) t in omega (arith, ranked r h .v-fits)) rank in
-      let rows = or-else (halfLength p (r .v)) (every n row) (λ t. subst T e t) fits in
-      let pairs = every-at n row rows (r .i13) i13-row in
-      let pair = every-at (r .v) (pairApart r j) (every-at (r .v) (λ j. every (r .v) (pairApart r j)) pairs j hj) k hk in
-      or-else (eqb j k) _ (λ t. ne (eqb→eq j k t)) pair
+pub layers-apart : (r : Report) → InRange r → isHalf r ≡ false → (j k : ℕ) → j < r .v → k < r .v → j ≢ k
+    → T (apart (r .n1) (r .n2) (offsets r) (bracket (r .v) j) (bracket (r .v) k))
+unfolding offsets halfLength kRows i13Values
+layers-apart r h e j k hj hk ne =
+    let p = ports (r .n1) (r .n2) in
+    let n = length (kRows (r .n1) (r .n2) (r .v)) in
+    let row = rowApart (r .n1) (r .n2) (r .v) in
+    let setting = at-setting (r .n1) (r .n2) settingApart settings-apart (h .setting) in
+    let rank = every-at 9 (rankApart (r .n1) (r .n2)) setting (r .v) (omega (arith, v-few r h)) in
+    let fits = or-else (ltb p (r .v)) _ (λ t. omega (arith, ltb→lt p (r .v) t, v-fits r h)) rank in
+    let rows = or-else (halfLength p (r .v)) (every n row) (λ t. subst T e t) fits in
+    let pairs = every-at n row rows (r .i13) (subst (λ (b : Bool). r .i13 < cond b 4 n) e (h .i13)) in
+    let pair = every-at (r .v) (pairApart r j) (every-at (r .v) (λ j. every (r .v) (pairApart r j)) pairs j hj) k hk in
+    or-else (eqb j k) _ (λ t. ne (eqb→eq j k t)) pair

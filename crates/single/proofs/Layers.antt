@@ -1,64 +1,62 @@
 -- The layers of a report: how many there are, their beams and their co-phases.
-use mathlib.Core.Path.{_≡_, refl, sym, ap, _∙_, subst}
+use mathlib.Core.Path.{_≡_, refl, ap, _∙_}
 use mathlib.Core.Bool.{Bool, true, false, cond, _&&_, _||_}
 use mathlib.Core.List.{List, [], _∷_, map}
-use Prim.Native.Nat.{ℕ, zero, suc, _+_, _-_, _*_, _/_, _%_, _<_, _≤_}
+use Prim.Native.Nat.{ℕ, _+_, _-_, _*_, _/_, _<_, _≤_}
 use native.Mathlib.Omega.{arith}
-use lib.Dec.{T, eqb, leb, ltb, eqb→eq, leb→le, ltb→lt}
+use lib.Dec.{T, eqb, leb, ltb, eqb→eq, ltb→lt}
 use lib.ListN.{length, getD, take, length-map}
 use lib.Seq.{length-take-le, getD-take}
+use borrow.Author.Tests.{leb-true}
 use Rattle.ground.specs.Lists.{every, each}
+use Rattle.ground.proofs.Booleans.{and-true-left, and-true-right}
 use Rattle.ground.proofs.Tests.{and-left, and-right, or-else, every-at}
 use Rattle.ground.proofs.Lists.{map-at}
 use Rattle.settings.specs.declared.Beam.{Beam}
-use Rattle.settings.specs.Settings.{settings, isSetting, ports}
+use Rattle.settings.specs.Settings.{settings, ports}
 use Rattle.settings.specs.Ranges.{beam, halfLength}
-use Rattle.settings.proofs.Known.{Known, known, at-setting}
-use Rattle.settings.proofs.Ranked.{Rank, rank-of}
+use Rattle.settings.proofs.Known.{at-setting}
 use Rattle.report.specs.declared.Report.{Report}
 use Rattle.report.specs.Rules.{InRange}
 use Rattle.report.specs.Beams.{isHalf, offsets, beams}
-use Rattle.report.proofs.Offsets.{counted, counted-some, length-offsets, length-beams}
-use Rattle.plan.specs.Plan.{Layer, layerAt}
+use Rattle.report.proofs.InRange.{v-some, v-few}
+use Rattle.report.proofs.Offsets.{counted, offsets-some, length-offsets}
+use Rattle.plan.specs.Plan.{layerAt}
 use Rattle.single.specs.Columns.{B, f, Bracket, _⨾_, byRank, place, phaseOf, quarters}
-use Rattle.single.specs.Plan.{fOf, tOf, withBeam, whole, quartered, layers, blocks, rows, plan}
+use Rattle.single.specs.Plan.{fOf, tOf, withBeam, whole, quartered, layers, plan}
 
--- v layers, 1 to 8 and at most P
-pub ranked : (r : Report) → InRange r → Rank (ports (r .n1) (r .n2)) (r .v)
-ranked r h = rank-of (ports (r .n1) (r .n2)) (r .v) (h .rank)
+-- ---- tests
+
+-- what follows from a test and from its failing holds
+pub either : {A : Type 0} (b : Bool) → (b ≡ true → A) → (b ≡ false → A) → A
+either true p q = p refl
+either false p q = q refl
+
+pub two-eq : (a b c d : ℕ) → T (eqb a b && eqb c d) → (a ≡ b) × (c ≡ d)
+two-eq a b c d t = (eqb→eq a b (and-left (eqb a b) (eqb c d) t), eqb→eq c d (and-right (eqb a b) (eqb c d) t))
 
 -- ---- half-length beams
 
--- where they are used
-pub record Halved (r : Report) : Type 0 where
-  pub three : 3 ≤ r .v
-  pub four : r .v ≤ 4
-  pub many : 16 ≤ ports (r .n1) (r .n2)
-
-pub halved : (r : Report) → isHalf r ≡ true → Halved r
+-- they are used with up to four layers, on sixteen ports and more
+pub halved : (r : Report) → isHalf r ≡ true → (r .v ≤ 4) × (16 ≤ ports (r .n1) (r .n2))
 unfolding halfLength
 halved r e =
     let a = leb 3 (r .v) in
     let b = leb (r .v) 4 in
     let d = leb 16 (ports (r .n1) (r .n2)) in
-    let t : T (a && b && d) = subst T (sym e) tt in
-    record {
-      three = leb→le 3 (r .v) (and-left a b (and-left (a && b) d t));
-      four = leb→le (r .v) 4 (and-right a b (and-left (a && b) d t));
-      many = leb→le 16 (ports (r .n1) (r .n2)) (and-right (a && b) d t);
-    }
+    (leb-true _ 4 (and-true-right a b (and-true-left (a && b) d e)), leb-true 16 _ (and-true-right (a && b) d e))
 
 -- N1 is even there
-pub even-rows : (n1 n2 : ℕ) → isSetting n1 n2 ≡ true → 16 ≤ ports n1 n2 → n1 % 2 ≡ 0
+pub even-rows : (r : Report) → InRange r → isHalf r ≡ true → r .n1 / 2 * 2 ≡ r .n1
 unfolding settings each
-even-rows n1 n2 e h =
-    eqb→eq (n1 % 2) 0
-    (or-else (leb (ports n1 n2) 15) (eqb (n1 % 2) 0) (λ s. let g = leb→le (ports n1 n2) 15 s in omega arith)
-    (at-setting n1 n2 (λ a b. leb (ports a b) 15 || eqb (a % 2) 0) tt e))
+even-rows r h e =
+    let few = ltb (ports (r .n1) (r .n2)) 16 in
+    let test = at-setting (r .n1) (r .n2) (λ a b. ltb (ports a b) 16 || eqb (a / 2 * 2) a) tt (h .setting) in
+    eqb→eq _ _ (or-else few _ (λ t. omega (arith, ltb→lt (ports (r .n1) (r .n2)) 16 t, halved r e .1)) test)
 
 -- ---- layers
 
--- the brackets of a report's rank, that of layer j, and for half-length beams what is added to the quarters
+-- the brackets of a rank, that of layer j, and for half-length beams what is added to the quarters
 abbrev pub brackets : ℕ → List Bracket
 brackets v = getD byRank (v - 1) []
 
@@ -68,87 +66,50 @@ bracket v j = getD (brackets v) j (B ⨾ f)
 abbrev pub halves : Report → List (List ℕ)
 halves r = quarters (fOf r) (tOf r)
 
--- v brackets at rank v
-pub length-rank : (v : ℕ) → 1 ≤ v → v ≤ 8 → length (brackets v) ≡ v
-unfolding byRank every
-length-rank v some few =
-    let t = every-at 8 (λ k. eqb (length (getD byRank k [])) (k + 1)) tt (v - 1) (omega arith) in
-    eqb→eq (length (brackets v)) (v - 1 + 1) t ∙ omega arith
+-- of layer j: the place of its beam, the beam, and what is added to its blocks
+abbrev pub placeAt : Report → ℕ → ℕ
+placeAt r j = cond (isHalf r) 0 (place (bracket (r .v) j .beam))
 
-four-quarters : (fn t : ℕ) → length (quarters fn t) ≡ 4
-unfolding quarters
-four-quarters fn t = refl
+abbrev pub beamOf : Report → ℕ → Beam
+beamOf r j = getD (beams r) (placeAt r j) (beam 0 0)
 
--- v layers at rank v
-pub length-layers : (r : Report) → InRange r → length (layers r) ≡ r .v
-unfolding layers
-length-layers r h = by-length (isHalf r) refl
-  where
-    by-length : (b : Bool) → isHalf r ≡ b
-        → length (cond b (map (quartered r) (take (r .v) (halves r))) (map (whole r) (brackets (r .v)))) ≡ r .v
-    by-length true e =
-        length-map (take (r .v) (halves r)) (quartered r)
-        ∙ length-take-le (r .v) (halves r) (omega (arith, four-quarters (fOf r) (tOf r), halved r e .four))
-    by-length false e =
-        length-map (brackets (r .v)) (whole r) ∙ length-rank (r .v) (ranked r h .v-some) (ranked r h .v-few)
+abbrev pub addedTo : Report → ℕ → List ℕ
+addedTo r j = cond (isHalf r) (getD (halves r) j []) (0 ∷ phaseOf (fOf r) (bracket (r .v) j .added) ∷ [])
 
-module _ (r : Report) (j : ℕ) (k : j < r .v) where
-  -- layer j of half-length beams, and of whole ones
-  pub half-layer : isHalf r ≡ true → layerAt (plan r) j ≡ quartered r (getD (halves r) j [])
-  unfolding layers
-  half-layer e =
-      let long = length-take-le (r .v) (halves r) (omega (arith, four-quarters (fOf r) (tOf r), halved r e .four)) in
-      rw e (map-at (quartered r) (take (r .v) (halves r)) j [] _ (omega arith))
-      ∙ ap (quartered r) (getD-take (r .v) (halves r) j [] k)
+module _ (r : Report) (h : InRange r) where
+  -- a test that passes at every layer of every rank passes at this rank
+  pub at-rank : (test : ℕ → ℕ → Bool) → T (every 9 (λ v. every v (test v))) → (j : ℕ) → j < r .v → T (test (r .v) j)
+  at-rank test t = every-at (r .v) (test (r .v)) (every-at 9 (λ v. every v (test v)) t (r .v) (omega (arith, v-few r h)))
 
-  pub whole-layer : InRange r → isHalf r ≡ false → layerAt (plan r) j ≡ whole r (bracket (r .v) j)
-  unfolding layers
-  whole-layer h e =
-      let long = length-rank (r .v) (ranked r h .v-some) (ranked r h .v-few) in
-      rw e (map-at (whole r) (brackets (r .v)) j (B ⨾ f) _ (omega arith))
+  -- v brackets at rank v
+  pub length-rank : length (brackets (r .v)) ≡ r .v
+  unfolding byRank every
+  length-rank =
+      let ranks = every-at 8 (λ k. eqb (length (getD byRank k [])) (k + 1)) tt in
+      eqb→eq _ (r .v - 1 + 1) (ranks (r .v - 1) (omega (arith, v-few r h))) ∙ omega (arith, v-some r h)
 
--- ---- the beams of the layers are beams of the report
+  -- v layers at rank v
+  pub length-layers : length (layers r) ≡ r .v
+  unfolding layers quarters
+  length-layers =
+      either (isHalf r) (λ e. rw (e, length-map) (length-take-le (r .v) (halves r) (halved r e .0)))
+      (λ e. rw (e, length-map) length-rank)
 
--- every bracket of every rank names one of the beams of whole length
-brackets-counted : (v j : ℕ) → 1 ≤ v → v ≤ 8 → j < v → place (bracket v j .beam) < counted v (eqb v 1 || false)
-unfolding every byRank
-brackets-counted v j some few h =
-    let at : ℕ → ℕ → ℕ = λ k j. place (getD (getD byRank k []) j (B ⨾ f) .beam) in
-    let bound : ℕ → ℕ = λ v. counted v (eqb v 1 || false) in
-    let t = every-at 8 (λ k. every (k + 1) (λ j. ltb (at k j) (bound (k + 1)))) tt (v - 1) (omega arith) in
-    let u = every-at (v - 1 + 1) (λ j. ltb (at (v - 1) j) (bound (v - 1 + 1))) t j (omega arith) in
-    let e : v - 1 + 1 ≡ v = omega arith in
-    rw e at (ltb→lt (at (v - 1) j) (bound (v - 1 + 1)) u)
+  module _ (j : ℕ) (k : j < r .v) where
+    pub layer-is : layerAt (plan r) j ≡ withBeam (beamOf r j) (addedTo r j)
+    unfolding layers whole quartered quarters
+    layer-is =
+        either (isHalf r)
+        (λ e.
+        let long = length-take-le (r .v) (halves r) (halved r e .0) in
+        rw e
+        (map-at (quartered r) (take (r .v) (halves r)) j [] _ (omega arith)
+        ∙ ap (quartered r) (getD-take (r .v) (halves r) j [] k)))
+        (λ e. let long = length-rank in rw e (map-at (whole r) (brackets (r .v)) j (B ⨾ f) _ (omega arith)))
 
--- and so those of a report's rank
-pub brackets-within : (r : Report) → InRange r → isHalf r ≡ false → (j : ℕ) → j < r .v
-    → place (bracket (r .v) j .beam) < length (offsets r)
-brackets-within r h e j k =
-    rw (length-offsets r, e) (brackets-counted (r .v) j (ranked r h .v-some) (ranked r h .v-few) k)
-
--- layer x has a beam of the report, at a place
-pub record Uses (r : Report) (x : Layer) : Type 0 where
-  pub at : ℕ
-  pub within : at < length (beams r)
-  pub same-l : x .l ≡ getD (beams r) at (beam 0 0) .l
-  pub same-m : x .m ≡ getD (beams r) at (beam 0 0) .m
-
-pub layers-use : (r : Report) → InRange r → (j : ℕ) → j < r .v → Uses r (layerAt (plan r) j)
-unfolding whole quartered
-layers-use r h j k = by-length (isHalf r) refl
-  where
-    by-length : (b : Bool) → isHalf r ≡ b → Uses r (layerAt (plan r) j)
-    by-length true e =
-        record {
-          at = 0;
-          within = rw (length-beams r, length-offsets r) (counted-some (r .v) (eqb (r .v) 1 || isHalf r));
-          same-l = ap (λ (x : Layer). x .l) (half-layer r j k e);
-          same-m = ap (λ (x : Layer). x .m) (half-layer r j k e);
-        }
-    by-length false e =
-        record {
-          at = place (bracket (r .v) j .beam);
-          within = rw (length-beams r) (brackets-within r h e j k);
-          same-l = ap (λ (x : Layer). x .l) (whole-layer r j k h e);
-          same-m = ap (λ (x : Layer). x .m) (whole-layer r j k h e);
-        }
+    -- its beam is one of the report's
+    pub place-within : placeAt r j < length (offsets r)
+    unfolding every byRank
+    place-within =
+        let test = at-rank (λ v j. ltb (place (bracket v j .beam)) (counted v (eqb v 1 || false))) tt j k in
+        either (isHalf r) (λ e. rw e (offsets-some r)) (λ e. rw (length-offsets r, e) (ltb→lt _ _ test))

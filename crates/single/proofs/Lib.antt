@@ -7,6 +7,4 @@ pub mod Lawful
 pub mod Drawn
 pub mod Given
 pub mod Asked
-pub mod Handed
-pub mod Judged
 pub mod Unique

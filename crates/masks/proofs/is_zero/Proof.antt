@@ -15,11 +15,6 @@ returns : tie.Need-returns
 unfolding isZero bit
 returns c = rw (List·getD-eq-default {A = ℕ} _ 0 (c .if1 .taken), zero-div)
 
-cast-byte : tie.Need-cast-byte
-cast-byte c =
-    let a = c .before .before .args in
-    omega (arith, c .shared-slice-known .given ((a .width * a .l + a .m) / 8))
-
 returns-2 : tie.Need-returns-2
 unfolding isZero bit
 returns-2 c = search needs
@@ -32,7 +27,7 @@ is-zero-spec =
     (λ c. omega (arith, far c))
     returns
     (λ c. search needs)
-    cast-byte
+    (λ c. let a = c .before .before .args in omega (arith, c .shared-slice-known .given ((a .width * a .l + a .m) / 8)))
     (λ c. search needs)
     (λ c. search needs)
     returns-2)

@@ -1,6 +1,7 @@
 -- `later_zero` meets its contract: each test takes one bit off those that are left.
 use mathlib.Core.Path.{_≡_, sym, _∙_}
-use Prim.Native.Nat.{_≤_}
+use mathlib.Core.Bool.{Bool}
+use Prim.Native.Nat.{ℕ, _≤_}
 use native.Mathlib.Nat.{le-of-eq}
 use native.Mathlib.Omega.{arith}
 use denote.Ref.{now}
@@ -9,33 +10,28 @@ use Rattle.masks.proofs.Bits.{zeroFrom, from-second, from-third, from-f
 use Rattle.masks.proofs.later_zero.Statement.{statement}
 use Rattle.masks.proofs.later_zero.Tie as tie
 
+-- one of the bits from that of beam i on is zero
+abbrev from : tie.Start → ℕ → Bool
+from s i = let a = s .args in zeroFrom (now (a .mask)) (a .width) (a .t4) (a .t5) i (a .n)
+
 -- the second bit is not zero
-past-second : (c : tie.Else1)
-    → let a = c .before .before .before .args in
-    let from = zeroFrom (now (a .mask)) (a .width) (a .t4) (a .t5) in
-    from 1 (a .n) ≡ from 2 (a .n)
+past-second : (c : tie.Else1) → let s = c .before .before .before in from s 1 ≡ from s 2
 past-second c =
-    let s = c .before .before .before in
-    rw (from-second _ _ _ _ _ (s .pre), sym (c .before .is-zero .ensures) ∙ c .if1 .left)
+    rw (from-second _ _ _ _ _ (c .before .before .before .pre), sym (c .before .is-zero .ensures) ∙ c .if1 .left)
 
 -- there are three bits or more
 three : (c : tie.Else2) → 3 ≤ c .before .before .before .before .args .n
-three c = let s = c .before .before .before .before in omega (arith, s .pre, c .if2 .left)
+three c = omega (arith, c .before .before .before .before .pre, c .if2 .left)
 
 -- the third is not zero either
-past-third : (c : tie.Else3)
-    → let a = c .before .before .before .before .before .before .args in
-    let from = zeroFrom (now (a .mask)) (a .width) (a .t4) (a .t5) in
-    from 1 (a .n) ≡ from 3 (a .n)
+past-third : (c : tie.Else3) → let s = c .before .before .before .before .before .before in from s 1 ≡ from s 3
 past-third c =
     let e = c .before .before in
-    past-second (e .before)
-    ∙ rw (from-third _ _ _ _ _ (three e), sym (c .before .is-zero2 .ensures) ∙ c .if3 .left)
+    past-second (e .before) ∙ rw (from-third _ _ _ _ _ (three e), sym (c .before .is-zero2 .ensures) ∙ c .if3 .left)
 
 returns : tie.Need-returns
 returns c =
-    let s = c .before .before .before in
-    rw (from-second _ _ _ _ _ (s .pre), sym (c .before .is-zero .ensures) ∙ c .if1 .taken)
+    rw (from-second _ _ _ _ _ (c .before .before .before .pre), sym (c .before .is-zero .ensures) ∙ c .if1 .taken)
 
 returns-2 : tie.Need-returns-2
 returns-2 c = sym (past-second (c .before) ∙ none-past _ _ _ _ 1 _ (le-of-eq (c .if2 .taken)))
@@ -43,9 +39,7 @@ returns-2 c = sym (past-second (c .before) ∙ none-past _ _ _ _ 1 _ (le-of-eq (
 returns-3 : tie.Need-returns-3
 returns-3 c =
     let e = c .before .before in
-    sym
-    (past-second (e .before)
-    ∙ rw (from-third _ _ _ _ _ (three e), sym (c .before .is-zero2 .ensures) ∙ c .if3 .taken))
+    sym (past-second (e .before) ∙ rw (from-third _ _ _ _ _ (three e), sym (c .before .is-zero2 .ensures) ∙ c .if3 .taken))
 
 returns-4 : tie.Need-returns-4
 returns-4 c = sym (past-third (c .before) ∙ none-past _ _ _ _ 2 _ (le-of-eq (c .if4 .taken)))

@@ -8,21 +8,17 @@ use Rattle.plan.specs.Masks.{rankBarred}
 use Rattle.masks.proofs.rank_barred.Statement.{statement}
 use Rattle.masks.proofs.rank_barred.Tie as tie
 
--- a byte has no bit past its eight
-short : (c : tie.Then2) → let a = c .before .before .args in a .ranks < 2 ^ (a .v - 1)
-short c =
-    let a = c .before .before .args in
-    let far : 8 ≤ a .v - 1 = omega arith in
-    let byte : a .ranks < 256 = omega arith in
-    lt-of-lt-of-le byte (pow-mono far)
-
 returns : tie.Need-returns
 unfolding rankBarred
 returns c = rw (c .if1 .taken, div-one)
 
 returns-2 : tie.Need-returns-2
 unfolding rankBarred
-returns-2 c = rw (div-eq-of-lt (short c))
+returns-2 c =
+    let a = c .before .before .args in
+    let far : 8 ≤ a .v - 1 = omega arith in
+    let byte : a .ranks < 2 ^ 8 = omega arith in
+    rw (div-eq-of-lt (lt-of-lt-of-le byte (pow-mono far)))
 
 returns-3 : tie.Need-returns-3
 unfolding rankBarred

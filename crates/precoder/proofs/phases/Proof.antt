@@ -6,8 +6,7 @@ use Rattle.precoder.proofs.phases.Statement.{statement}
 use Rattle.precoder.proofs.phases.Tie as tie
 
 returns : tie.Need-returns
-returns c =
-    refused-answers _ _ _ _ (c .before .before .before .judge .ensures) _ _ (c .before .if1 .taken)
+returns c = refused-answers _ _ _ _ (c .before .before .before .judge .ensures) _ _ (c .before .if1 .taken)
 
 returns-2 : tie.Need-returns-2
 returns-2 c =

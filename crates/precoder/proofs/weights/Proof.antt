@@ -7,13 +7,10 @@ use Rattle.precoder.proofs.weights.Statement.{statement}
 use Rattle.precoder.proofs.weights.Tie as tie
 
 returns : tie.Need-returns
-returns c =
-    refused-answers _ _ _ _ (c .before .before .before .judge .ensures) _ _ (c .before .if1 .taken)
+returns c = refused-answers _ _ _ _ (c .before .before .before .judge .ensures) _ _ (c .before .if1 .taken)
 
 rem-weights : tie.Need-rem-weights
-rem-weights c =
-    let e = c .before in
-    ports-some _ _ _ _ (e .before .before .judge .ensures) (e .if1 .left)
+rem-weights c = ports-some _ _ _ _ (c .before .before .before .judge .ensures) (c .before .if1 .left)
 
 returns-2 : tie.Need-returns-2
 returns-2 c =

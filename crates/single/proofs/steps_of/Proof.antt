@@ -1,6 +1,6 @@
 -- `steps_of` meets its contract: each step is that of the report's beam at its place.
 use native.Mathlib.Omega.{arith}
-use Rattle.single.proofs.Given.{across-some, down-some, small, step-is, no-steps, one-step, four-steps}
+use Rattle.single.proofs.Given.{across-some, down-some, small, step-is, no-steps, one-step}
 use borrow.Author.Needs.{needs}
 use Rattle.single.proofs.steps_of.Statement.{statement}
 use Rattle.single.proofs.steps_of.Tie as tie
@@ -35,10 +35,12 @@ returns-3 c =
     let s = start (c .before .before .before .before .before .before .before .before .before .before) in
     let h = s .pre .0 in
     let e = s .pre .1 in
-    four-steps _ h e (step-is _ h e 0 (omega arith) (c .before .before .before .before .before .step-of .ensures))
-    (step-is _ h e 1 (omega arith) (c .before .before .step-of2 .ensures))
-    (step-is _ h e 2 (omega arith) (c .before .step-of3 .ensures))
-    (step-is _ h e 3 (omega arith) (c .step-of4 .ensures))
+    rw (
+      step-is _ h e 0 (omega arith) (c .before .before .before .before .before .step-of .ensures),
+      step-is _ h e 1 (omega arith) (c .before .before .step-of2 .ensures),
+      step-is _ h e 2 (omega arith) (c .before .step-of3 .ensures),
+      step-is _ h e 3 (omega arith) (c .step-of4 .ensures),
+    )
 
 pub steps-of-spec : {M : Type 1} → statement M
 steps-of-spec =
