@@ -28,7 +28,7 @@
 //     11   `out` is too short: v·P bytes are needed, or 2·v·P numbers for weights
 //
 // An index that the rank or the setting has no use for must be 0: its range is 0 alone.
-ghost use Rattle.plan.specs.Answer.{Phases, Weights};
+ghost use Rattle.plan.specs.Answer.{PhasesLeft, WeightsLeft};
 ghost use Rattle.single.specs.Single.{single};
 
 // Writes the phases of a report's precoder, each 0 to 191 in 1/192 turns: layer after layer, each of P entries, the first
@@ -41,7 +41,7 @@ pub extern "C" fn aspenflick_phases(
     ranks: u8,
     out: &mut [u8],
 ) -> plan::Record
-    ensures { λ a. ⌜ Phases single r (now (beams .entry)) ranks (now (out .entry)) a (now (out .exit)) ⌝ }
+    ensures { λ a. ⌜ PhasesLeft single r (now (beams .entry)) ranks (now (out .entry)) a (now (out .exit)) ⌝ }
 {
     precoder::phases(r, beams, ranks, out)
 }
@@ -57,7 +57,7 @@ pub extern "C" fn aspenflick_weights(
     ranks: u8,
     out: &mut [i16],
 ) -> plan::Record
-    ensures { λ a. ⌜ Weights single r (now (beams .entry)) ranks (now (out .entry)) a (now (out .exit)) ⌝ }
+    ensures { λ a. ⌜ WeightsLeft single r (now (beams .entry)) ranks (now (out .entry)) a (now (out .exit)) ⌝ }
 {
     precoder::weights(r, beams, ranks, out)
 }

@@ -116,16 +116,16 @@ some-none test (k ∷ ks) e =
     none-cons test k ks (p .0) (some-none test ks (p .1))
 
 -- every number of js stands in ks
-abbrev pub within : List ℕ → List ℕ → Bool
-within [] ks = true
-within (j ∷ js) ks = among j ks && within js ks
+abbrev pub allAmong : List ℕ → List ℕ → Bool
+allAmong [] ks = true
+allAmong (j ∷ js) ks = among j ks && allAmong js ks
 
 -- none of a list: none of any part
-pub none-within : (test : ℕ → Bool) (js ks : List ℕ) → T (within js ks) → None test ks → None test js
+pub none-within : (test : ℕ → Bool) (js ks : List ℕ) → T (allAmong js ks) → None test ks → None test js
 none-within test [] ks t n = none-nil test
 none-within test (j ∷ js) ks t n =
-    none-cons test j js (n .at j (and-left (among j ks) (within js ks) t))
-    (none-within test js ks (and-right (among j ks) (within js ks) t) n)
+    none-cons test j js (n .at j (and-left (among j ks) (allAmong js ks) t))
+    (none-within test js ks (and-right (among j ks) (allAmong js ks) t) n)
 
 -- what is kept stands in the list, and is kept
 pub among-part : (keep : ℕ → Bool) (ks : List ℕ) (k : ℕ) → T (among k (part keep ks)) → T (keep k) × T (among k ks)

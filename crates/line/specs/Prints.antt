@@ -8,7 +8,7 @@ use lib.ListN.{replicate}
 use Rattle.ground.specs.Cases.{_⇒_∣_}
 use Rattle.plan.specs.declared.Record.{Record}
 use Rattle.plan.specs.Plan.{matrix}
-use Rattle.plan.specs.Answer.{Asked, asked, planned, recordOf, refusal}
+use Rattle.plan.specs.Answer.{Request, asked, planned, recordOf, refusal}
 use Rattle.settings.specs.Settings.{isSetting, maskBytes}
 use Rattle.report.specs.declared.Report.{Report}
 use Rattle.single.specs.Plan.{plan}
@@ -26,7 +26,7 @@ unfoldable pub fullMask : ℕ → ℕ → List ℕ
 fullMask n1 n2 = replicate (isSetting n1 n2 ⇒ maskBytes n1 n2 ∣ 0) 255
 
 -- all mask bits are ones, and there is room for the largest matrix
-abbrev pub askedOf : Report → Asked Report
+abbrev pub askedOf : Report → Request Report
 askedOf r = asked r (fullMask (r .n1) (r .n2)) 255 256
 
 unfoldable pub refusalOf : Report → ℕ

@@ -45,18 +45,18 @@ first-late test (j ∷ ks) t k h =
 -- ---- a codebook
 
 module _ {R : Type 0} (b : Codebook R) (r : R) (mask : List ℕ) (ranks room : ℕ) where
-  abbrev judged : ℕ → Bool
-  judged = test b (asked r mask ranks room)
+  abbrev tested : ℕ → Bool
+  tested = test b (asked r mask ranks room)
 
   -- a late number has the codebook's own test
-  late-own : (k : ℕ) → T (late k) → judged k ≡ b .rule r k
+  late-own : (k : ℕ) → T (late k) → tested k ≡ b .rule r k
   unfolding test early
   late-own k t =
       let other : (n : ℕ) → (T (own n) → ⊥) → eqb k n ≡ false =
       λ n shared. ne-eqb k n (λ e. shared (subst (λ (j : ℕ). T (own j)) e (and-right (ltb 5 k) (own k) t))) in
       rw (other 10 (λ z. z), other 11 (λ z. z), other 3 (λ z. z), other 5 (λ z. z))
 
-  first-own : (ks : List ℕ) → T (each late ks) → first judged ks ≡ first (b .rule r) ks
+  first-own : (ks : List ℕ) → T (each late ks) → first tested ks ≡ first (b .rule r) ks
   unfolding first each
   first-own [] t = refl
   first-own (k ∷ ks) t =
@@ -76,19 +76,19 @@ module _ {R : Type 0} (b : Codebook R) (r : R) (mask : List ℕ) (ranks room : �
 
     -- none of 1 to 5 applies
     past-five : (zero : Bool) → eqb (x .refusal) 0 ≡ zero → x .refusal ≡ others → Passed x mask
-        → rankBarred ranks (x .v) ≡ false → admits (first judged (rest ++ (10 ∷ 11 ∷ [])))
+        → rankBarred ranks (x .v) ≡ false → admits (first tested (rest ++ (10 ∷ 11 ∷ [])))
     unfolding first test
     past-five true z e p ranked =
         let none = eqb-true (x .refusal) 0 z in
         let own = first-own rest (a .rest-late) ∙ sym e ∙ none in
         passed x mask ranks room p
         ∙ rw (ranked, z, a .bits-are none, a .entries-are none)
-        (sym (none-first judged rest (10 ∷ 11 ∷ []) (first-none judged rest (late-numbered rest (a .rest-late)) own)))
+        (sym (none-first tested rest (10 ∷ 11 ∷ []) (first-none tested rest (late-numbered rest (a .rest-late)) own)))
     past-five false z e p ranked =
         let same = e ∙ sym (first-own rest (a .rest-late)) in
         passed x mask ranks room p
         ∙ rw (ranked, z)
-        (same ∙ sym (first-stop judged rest (10 ∷ 11 ∷ []) (λ q. eqb-false (x .refusal) 0 z (same ∙ q))))
+        (same ∙ sym (first-stop tested rest (10 ∷ 11 ∷ []) (λ q. eqb-false (x .refusal) 0 z (same ∙ q))))
 
     -- neither 1 nor 2 applies
     own-first : (four : Bool) → x .refusal ≡ (four ⇒ 4 ∣ others) → (x .refusal ≢ 1) × (x .refusal ≢ 2)
@@ -104,7 +104,7 @@ module _ {R : Type 0} (b : Codebook R) (r : R) (mask : List ℕ) (ranks room : �
 
     past-two : (fits four closed : Bool) → eqb (length mask) (b .maskBytes r) ≡ fits → x .refusal ≡ (four ⇒ 4 ∣ others)
         → rankBarred ranks (x .v) ≡ closed
-        → admits (not fits ⇒ 3 ∣ four ⇒ 4 ∣ closed ⇒ 5 ∣ first judged (rest ++ (10 ∷ 11 ∷ [])))
+        → admits (not fits ⇒ 3 ∣ four ⇒ 4 ∣ closed ⇒ 5 ∣ first tested (rest ++ (10 ∷ 11 ∷ [])))
     past-two false four closed h e k =
         let (n1, n2) = own-first four e in
         gives-three x mask ranks room n1 n2 (λ q. eqb-false (length mask) _ h (q ∙ a .bytes-are n1 n2))
@@ -118,10 +118,10 @@ module _ {R : Type 0} (b : Codebook R) (r : R) (mask : List ℕ) (ranks room : �
     pub admitted-refusal : admitted x mask ranks room ≡ refusal b (asked r mask ranks room)
     unfolding refusal first test early
     admitted-refusal =
-        go (b .rule r 1) (b .rule r 2) (a .refusal-is) ∙ sym (ap (first judged) (a .order-is))
+        go (b .rule r 1) (b .rule r 2) (a .refusal-is) ∙ sym (ap (first tested) (a .order-is))
       where
         go : (one two : Bool) → x .refusal ≡ (one ⇒ 1 ∣ two ⇒ 2 ∣ b .rule r 4 ⇒ 4 ∣ others)
-            → admits (one ⇒ 1 ∣ two ⇒ 2 ∣ first judged (3 ∷ 4 ∷ 5 ∷ (rest ++ (10 ∷ 11 ∷ []))))
+            → admits (one ⇒ 1 ∣ two ⇒ 2 ∣ first tested (3 ∷ 4 ∷ 5 ∷ (rest ++ (10 ∷ 11 ∷ []))))
         go true two e = gives-one x mask ranks room e
         go false true e = gives-two x mask ranks room e
         go false false e = past-two _ (b .rule r 4) _ refl e (ap (rankBarred ranks) (a .layers-are))

@@ -18,11 +18,11 @@ use Rattle.weight.specs.Products.{power, Within, fullPower, powerBelow, powerAb
 use Rattle.weight.proofs.Pairs.{length-numbers, pairs-numbers}
 use Rattle.weight.proofs.Rules.{power-tight, port-within}
 use Rattle.plan.specs.declared.Record.{Record}
-use Rattle.plan.specs.Plan.{layerAt, columnOf, matrix, layer}
+use Rattle.plan.specs.Plan.{layerAt, columnOf, matrix, layerIn}
 use Rattle.plan.specs.Sound.{Sound}
 use Rattle.plan.specs.Masks.{bitOf, bit, isZero, barred}
-use Rattle.plan.specs.Answer.{Asked, Codebook, asked, own, early, test, refusal, Called, Phases, weightsOf}
-use Rattle.plan.specs.Answer.{Weights}
+use Rattle.plan.specs.Answer.{Request, Codebook, asked, own, early, test, refusal, Called, PhasesLeft, weightsOf}
+use Rattle.plan.specs.Answer.{WeightsLeft}
 use Rattle.plan.specs.Lawful.{Lawful}
 use Rattle.plan.proofs.Layers.{layer-before}
 use Rattle.plan.proofs.Matrix.{length-matrix, matrix-layer}
@@ -31,7 +31,7 @@ use Rattle.plan.proofs.Answers.{number-given, as-accepted}
 -- ---- any call
 
 -- at a number that is not shared the test is the rule
-own-rule : {R : Type 0} (b : Codebook R) (q : Asked R) (k : ℕ) → T (own k) → test b q k ≡ b .rule (q .report) k
+own-rule : {R : Type 0} (b : Codebook R) (q : Request R) (k : ℕ) → T (own k) → test b q k ≡ b .rule (q .report) k
 unfolding test early
 own-rule b q k t = rw (off 10 (λ z. z), off 11 (λ z. z), off 3 (λ z. z), off 5 (λ z. z))
   where
@@ -39,7 +39,7 @@ own-rule b q k t = rw (off 10 (λ z. z), off 11 (λ z. z), off 3 (λ z. z), off 
     off n h = ne-eqb k n (λ e. h (subst (λ (j : ℕ). T (own j)) e t))
 
 -- where no test holds, no rule does
-pub rules-passed : {R : Type 0} (b : Codebook R) (q : Asked R) → None (test b q) (b .order)
+pub rules-passed : {R : Type 0} (b : Codebook R) (q : Request R) → None (test b q) (b .order)
     → None (b .rule (q .report)) (part own (b .order))
 rules-passed b q n = record {
   at = λ k t.
@@ -85,18 +85,18 @@ module _ {R : Type 0} (b : Codebook R) {InRange : R → Type 0} (lawful : Lawful
   -- ---- an accepted call of `phases`
 
   module _ {lent : List ℕ} {given : Record} {left : List ℕ}
-      (call : Phases b r mask ranks lent given left) (e : given .refusal ≡ 0) where
-    pub left-layer : (j : ℕ) → j < v → layer P j left ≡ columnOf (b .plan r) (layerAt (b .plan r) j)
+      (call : PhasesLeft b r mask ranks lent given left) (e : given .refusal ≡ 0) where
+    pub left-layer : (j : ℕ) → j < v → layerIn P j left ≡ columnOf (b .plan r) (layerAt (b .plan r) j)
     left-layer j h =
         let long = entries _ call e in
-        ap (layer P j) (as-accepted refl call e _ long .0)
+        ap (layerIn P j) (as-accepted refl call e _ long .0)
         ∙ layer-before P v j (matrix (b .plan r)) (drop (v * P) lent) h long
         ∙ matrix-layer (b .plan r) (sound _ call e) j h
 
   -- ---- an accepted call of `weights`
 
   module _ {lent : List ℤ} {given : Record} {left : List ℤ}
-      (call : Weights b r mask ranks lent given left) (e : given .refusal ≡ 0) where
+      (call : WeightsLeft b r mask ranks lent given left) (e : given .refusal ≡ 0) where
     long-weights : length (map weight (matrix (b .plan r))) ≡ v * P
     long-weights = length-map (matrix (b .plan r)) weight ∙ entries _ call e
 
@@ -111,9 +111,9 @@ module _ {R : Type 0} (b : Codebook R) {InRange : R → Type 0} (lawful : Lawful
         ∙ pairs-numbers (map weight (matrix (b .plan r))) (drop (2 * (v * P)) lent)
 
     pub left-layer-weights : (j : ℕ) → j < v
-        → layer P j (pairs left) ≡ map weight (columnOf (b .plan r) (layerAt (b .plan r) j))
+        → layerIn P j (pairs left) ≡ map weight (columnOf (b .plan r) (layerAt (b .plan r) j))
     left-layer-weights j h =
-        ap (layer P j) left-pairs
+        ap (layerIn P j) left-pairs
         ∙ layer-before P v j (map weight (matrix (b .plan r))) _ h long-weights
         ∙ rw (drop-map, take-map) (ap (map weight) (matrix-layer (b .plan r) (sound _ call e) j h))
 

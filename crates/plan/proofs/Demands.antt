@@ -13,13 +13,13 @@ use Rattle.plan.specs.Plan.{Layer, past}
 use Rattle.plan.specs.Masks.{bit}
 use Rattle.plan.specs.Answer.{Codebook, refusal}
 use Rattle.plan.specs.Lawful.{Lawful}
-use Rattle.plan.specs.Demands.{Demanded}
+use Rattle.plan.specs.Demands.{Demands}
 use Rattle.plan.proofs.Answers.{number-given, one-answer, as-refused, as-accepted}
 use Rattle.plan.proofs.Matrix as plans
 use Rattle.plan.proofs.Calls as calls
 
 pub demanded : {R : Type 0} (b : Codebook R) {InRange : R → Type 0} (order : List ℕ) → b .order ≡ order → Lawful b InRange
-    → (r : R) (mask : List ℕ) (ranks : ℕ) → Demanded b InRange order r mask ranks
+    → (r : R) (mask : List ℕ) (ranks : ℕ) → Demands b InRange order r mask ranks
 unfolding refusal
 demanded b order same lawful r mask ranks = record {
   every-input-answered = λ room answer lent. record { record-is = refl; buffer-is = refl };
@@ -44,7 +44,7 @@ demanded b order same lawful r mask ranks = record {
       let range = calls.in-range b lawful r mask ranks room call e in
       let many = lawful .sound r range .many in
       all-ones (λ (x : Layer). bit mask (b .width r * x .l + x .m)) (b .plan r .layers) past
-      (λ j k. calls.read-one b lawful r mask ranks room call e _ (lawful .reads r range h j (omega (arith, many))))
+      (λ j k. calls.read-one b lawful r mask ranks room call e _ (lawful .beams-read r range h j (omega (arith, many))))
       ∙ ap (λ (n : ℕ). replicate n 1) many;
   accepted-as-weights = λ call e.
       let long = calls.length-weights b lawful r mask ranks call e in

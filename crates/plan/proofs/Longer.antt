@@ -8,8 +8,8 @@ use lib.ListN.{length, drop, length-append, length-map}
 use lib.Seq.{drop-append-le}
 use Rattle.weight.specs.Table.{weight, pairs}
 use Rattle.plan.specs.declared.Record.{Record}
-use Rattle.plan.specs.Plan.{layerAt, columnOf, layer}
-use Rattle.plan.specs.Answer.{Codebook, Called, Phases, Weights}
+use Rattle.plan.specs.Plan.{layerAt, columnOf, layerIn}
+use Rattle.plan.specs.Answer.{Codebook, Called, PhasesLeft, WeightsLeft}
 use Rattle.plan.specs.Lawful.{Lawful}
 use Rattle.plan.proofs.Matrix.{layer-long}
 use Rattle.plan.proofs.Answers.{number-given, as-accepted}
@@ -35,29 +35,29 @@ module _ {R : Type 0} (b : Codebook R) {InRange : R → Type 0} (lawful : Lawful
       )
 
   module _ {lent : List ℕ} {given : Record} {left : List ℕ}
-      (call : Phases b r mask ranks lent given left) (e : given .refusal ≡ 0) where
+      (call : PhasesLeft b r mask ranks lent given left) (e : given .refusal ≡ 0) where
     pub longer-phases : {given′ : Record} {left′ : List ℕ} (more : List ℕ)
-        → Phases b r mask ranks (lent ++ more) given′ left′ → (given′ ≡ given) × (left′ ≡ left ++ more)
+        → PhasesLeft b r mask ranks (lent ++ more) given′ left′ → (given′ ≡ given) × (left′ ≡ left ++ more)
     longer-phases more call′ =
         longer more _ (entries b lawful r mask ranks _ call e) (fits b lawful r mask ranks _ call e)
         (simp length-append (omega arith)) call call′ e
 
     -- every layer in the buffer has an entry for each port, so that what is said of two layers is said of P entries each
-    pub layers-whole : (j : ℕ) → j < b .plan r .v → length (layer (b .plan r .ports) j left) ≡ b .plan r .ports
+    pub layers-whole : (j : ℕ) → j < b .plan r .v → length (layerIn (b .plan r .ports) j left) ≡ b .plan r .ports
     layers-whole j h =
         ap length (left-layer b lawful r mask ranks call e j h)
         ∙ layer-long (b .plan r) (sound b lawful r mask ranks _ call e) j h
 
   module _ {lent : List ℤ} {given : Record} {left : List ℤ}
-      (call : Weights b r mask ranks lent given left) (e : given .refusal ≡ 0) where
+      (call : WeightsLeft b r mask ranks lent given left) (e : given .refusal ≡ 0) where
     pub longer-weights : {given′ : Record} {left′ : List ℤ} (more : List ℤ)
-        → Weights b r mask ranks (lent ++ more) given′ left′ → (given′ ≡ given) × (left′ ≡ left ++ more)
+        → WeightsLeft b r mask ranks (lent ++ more) given′ left′ → (given′ ≡ given) × (left′ ≡ left ++ more)
     longer-weights more call′ =
         longer more _ (length-weights b lawful r mask ranks call e) (let f = fits b lawful r mask ranks _ call e in omega arith)
         (simp length-append (omega arith)) call call′ e
 
     -- and so has every layer of weights
-    pub weights-whole : (j : ℕ) → j < b .plan r .v → length (layer (b .plan r .ports) j (pairs left)) ≡ b .plan r .ports
+    pub weights-whole : (j : ℕ) → j < b .plan r .v → length (layerIn (b .plan r .ports) j (pairs left)) ≡ b .plan r .ports
     weights-whole j h =
         ap length (left-layer-weights b lawful r mask ranks call e j h)
         ∙ length-map (columnOf (b .plan r) (layerAt (b .plan r) j)) weight

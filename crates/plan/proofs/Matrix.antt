@@ -19,8 +19,8 @@ use Rattle.turn.proofs.Entries.{beam-reduced, entry}
 use Rattle.turn.proofs.Cancel.{cancels-orthogonal, opposites-cancel, beams-cancel}
 use Rattle.weight.specs.Products.{re, im, limit}
 use Rattle.weight.proofs.CrossSum.{between, cross-bound}
-use Rattle.plan.specs.Plan.{Layer, Plan, past, layerAt, columnOf, matrix, layer}
-use Rattle.plan.specs.Sound.{Moved, Told, by-co-phases, by-beams, Sound}
+use Rattle.plan.specs.Plan.{Layer, Plan, past, layerAt, columnOf, matrix, layerIn}
+use Rattle.plan.specs.Sound.{StepsFrom, Told, by-co-phases, by-beams, Sound}
 
 -- ---- two layers that are told apart
 
@@ -28,7 +28,7 @@ abbrev blockOf : Setting → Layer → List ℕ
 blockOf c x = beam c (x .l) (x .m)
 
 -- the beam of a layer, from the one that it is steps away from
-beam-moved : (c : Setting) (l m k1 k2 : ℕ) (x : Layer) → Moved c l m k1 k2 x
+beam-moved : (c : Setting) (l m k1 k2 : ℕ) (x : Layer) → StepsFrom c l m k1 k2 x
     → blockOf c x ≡ beam c (l + k1 * c .o1) (m + k2 * c .o2)
 beam-moved c l m k1 k2 x h = rw (h .across, h .down) (beam-reduced c _ _)
 
@@ -59,7 +59,7 @@ module _ (p : Plan) (s : Sound p) where
       length-join (columnOf p) (p .layers) past (p .ports) each-long ∙ ap (λ (n : ℕ). n * p .ports) (s .many)
 
   -- layer j of the matrix is its column
-  pub matrix-layer : (j : ℕ) → j < p .v → layer (p .ports) j (matrix p) ≡ columnOf p (layerAt p j)
+  pub matrix-layer : (j : ℕ) → j < p .v → layerIn (p .ports) j (matrix p) ≡ columnOf p (layerAt p j)
   unfolding matrix
   matrix-layer j h = join-part (columnOf p) (p .layers) past (p .ports) each-long j (omega (arith, s .many))
 
@@ -69,7 +69,7 @@ module _ (p : Plan) (s : Sound p) where
     layers-cancel = told-cancels (p .block) (s .whole) (layerAt p j) (layerAt p k) (s .told j k hj hk ne)
 
     -- any two are exactly orthogonal
-    pub layers-orthogonal : Orthogonal (layer (p .ports) j (matrix p)) (layer (p .ports) k (matrix p))
+    pub layers-orthogonal : Orthogonal (layerIn (p .ports) j (matrix p)) (layerIn (p .ports) k (matrix p))
     layers-orthogonal =
         subst₂ Orthogonal (sym (matrix-layer j hj)) (sym (matrix-layer k hk)) (cancels-orthogonal _ _ layers-cancel)
 

@@ -16,13 +16,13 @@ use Rattle.plan.specs.Plan.{Plan, matrix}
 use Rattle.plan.specs.Masks.{barred, rankBarred}
 
 -- what is asked: a report, the masks, and for how many entries the lent buffer has room
-pub record Asked (R : Type 0) : Type 0 where
+pub record Request (R : Type 0) : Type 0 where
   pub report : R
   pub mask : List ℕ
   pub ranks : ℕ
   pub room : ℕ
 
-abbrev pub asked : {R : Type 0} → R → List ℕ → ℕ → ℕ → Asked R
+abbrev pub asked : {R : Type 0} → R → List ℕ → ℕ → ℕ → Request R
 asked r mask ranks room = record { report = r; mask = mask; ranks = ranks; room = room }
 
 -- A codebook over reports R: the tests that need the report alone, by number; the order in which all are tried; the bytes of
@@ -77,14 +77,14 @@ module _ {R : Type 0} (b : Codebook R) where
       ∣ b .rule r k
 
   -- the test of each number: 10 a barred beam, 11 the room
-  unfoldable pub test : Asked R → ℕ → Bool
+  unfoldable pub test : Request R → ℕ → Bool
   test q k =
       eqb k 10 ⇒ barred (q .mask) (b .bitsRead (q .report))
       ∣ eqb k 11 ⇒ ltb (q .room) (b .plan (q .report) .v * b .plan (q .report) .ports)
       ∣ early (q .report) (length (q .mask)) (q .ranks) k
 
   -- the refusal: the first in the order that applies
-  unfoldable pub refusal : Asked R → ℕ
+  unfoldable pub refusal : Request R → ℕ
   refusal q = first (test q) (b .order)
 
   -- a call with room for so many entries, by the answer that the buffer is to hold
@@ -93,16 +93,16 @@ module _ {R : Type 0} (b : Codebook R) where
       Answers (refusal (asked r mask ranks room)) (planned (b .plan r)) answer lent given left
 
   -- a call of `phases`: an entry is a number of parts of a turn
-  abbrev pub Phases : R → List ℕ → ℕ → List ℕ → Record → List ℕ → Type 0
-  Phases r mask ranks lent given left = Called r mask ranks (length lent) (matrix (b .plan r)) lent given left
+  abbrev pub PhasesLeft : R → List ℕ → ℕ → List ℕ → Record → List ℕ → Type 0
+  PhasesLeft r mask ranks lent given left = Called r mask ranks (length lent) (matrix (b .plan r)) lent given left
 
   -- the weights of a report's matrix, as they are stored
   unfoldable pub weightsOf : R → List ℤ
   weightsOf r = numbers (map weight (matrix (b .plan r)))
 
   -- a call of `weights`: an entry is two numbers, so that 11 is given where there are fewer than 2·v·P
-  abbrev pub Weights : R → List ℕ → ℕ → List ℤ → Record → List ℤ → Type 0
-  Weights r mask ranks lent given left = Called r mask ranks (length lent / 2) (weightsOf r) lent given left
+  abbrev pub WeightsLeft : R → List ℕ → ℕ → List ℤ → Record → List ℤ → Type 0
+  WeightsLeft r mask ranks lent given left = Called r mask ranks (length lent / 2) (weightsOf r) lent given left
 
 -- nothing to write
 abbrev pub blank : Drawing

@@ -1,7 +1,7 @@
 -- What the library answers for, of any codebook: the three demands, and how unequal the power of the ports can become.
 --
 -- A call of `phases` or `weights` is given a report r, a beam mask, a rank mask and a lent buffer; it gives a record and
--- leaves the buffer. `Phases` and `Weights` say what, on every input: they are the contracts that the code is proved to
+-- leaves the buffer. `PhasesLeft` and `WeightsLeft` say what, on every input: they are the contracts that the code is proved to
 -- meet. Each is a case of `Called`, by the room that the buffer has, in entries, and by the answer that it is to hold.
 -- Every codebook that is lawful answers for all of this (proofs/Demands.antt), and each is shown to be lawful.
 use mathlib.Core.Path.{_≡_}
@@ -16,10 +16,10 @@ use Rattle.turn.specs.Exact.{Orthogonal}
 use Rattle.weight.specs.Table.{none, weight, pairs}
 use Rattle.weight.specs.Products.{re, im, power, Within, cross, portPower}
 use Rattle.plan.specs.declared.Record.{Record}
-use Rattle.plan.specs.Plan.{matrix, layer}
+use Rattle.plan.specs.Plan.{matrix, layerIn}
 use Rattle.plan.specs.Masks.{bit}
 use Rattle.plan.specs.Answer.{asked, Codebook, refused, planned, recordOf, bufferOf, test, refusal, Called}
-use Rattle.plan.specs.Answer.{Phases, weightsOf, Weights}
+use Rattle.plan.specs.Answer.{PhasesLeft, weightsOf, WeightsLeft}
 
 module _ {R : Type 0} (b : Codebook R) (InRange : R → Type 0) (order : List ℕ) (r : R) (mask : List ℕ) (ranks : ℕ) where
   -- P, v and the precoder of the report
@@ -32,7 +32,7 @@ module _ {R : Type 0} (b : Codebook R) (InRange : R → Type 0) (order : List �
   abbrev pub W : List ℕ
   W = matrix (b .plan r)
 
-  pub record Demanded : Type 1 where
+  pub record Demands : Type 1 where
     -- 1a. Every input has an answer, whatever the report, the masks and the buffer.
     pub every-input-answered : {A : Type 0} (room : ℕ) (answer lent : List A)
         → let number = refusal b (asked r mask ranks room) in
@@ -55,7 +55,7 @@ module _ {R : Type 0} (b : Codebook R) (InRange : R → Type 0) (order : List �
     pub accepted-in-range : {A : Type 0} (room : ℕ) {answer lent left : List A} {given : Record}
         → Called b r mask ranks room answer lent given left → given .refusal ≡ 0 → InRange r
     -- 2a. An accepted report leaves its matrix, v·P phases, and after it what was lent. Its record holds 0, P, v and v·P.
-    pub accepted-as-matrix : {lent left : List ℕ} {given : Record} → Phases b r mask ranks lent given left
+    pub accepted-as-matrix : {lent left : List ℕ} {given : Record} → PhasesLeft b r mask ranks lent given left
         → given .refusal ≡ 0
         → (left ≡ W ++ drop (v * P) lent) × (length W ≡ v * P) × (given ≡ planned (b .plan r))
     -- 2b. A report is accepted exactly when no refusal applies: no rule, no mask, and no lack of room.
@@ -71,41 +71,41 @@ module _ {R : Type 0} (b : Codebook R) (InRange : R → Type 0) (order : List �
         → Called b r mask ranks room answer lent given left → given .refusal ≡ 0 → b .beamed r ≡ true
         → map (λ x. bit mask (b .width r * x .l + x .m)) (b .plan r .layers) ≡ replicate v 1
     -- 2d. An accepted report leaves its weights, 2·v·P numbers, and after them what was lent.
-    pub accepted-as-weights : {lent left : List ℤ} {given : Record} → Weights b r mask ranks lent given left
+    pub accepted-as-weights : {lent left : List ℤ} {given : Record} → WeightsLeft b r mask ranks lent given left
         → given .refusal ≡ 0
         → (left ≡ weightsOf b r ++ drop (2 * (v * P)) lent) × (length (weightsOf b r) ≡ 2 * (v * P))
         × (given ≡ planned (b .plan r))
     -- 2d. Weight i in the buffer is the table's pair at phase i of the matrix, x and then y.
-    pub weights-of-phases : {lent left : List ℤ} {given : Record} → Weights b r mask ranks lent given left
+    pub weights-of-phases : {lent left : List ℤ} {given : Record} → WeightsLeft b r mask ranks lent given left
         → given .refusal ≡ 0 → (i : ℕ) → i < v * P → getD (pairs left) i none ≡ weight (getD W i 0)
     -- 3a. Any two different layers of an accepted report's matrix are exactly orthogonal, by the rule of counts.
     pub layers-orthogonal : {A : Type 0} (room : ℕ) {answer lent left : List A} {given : Record}
         → Called b r mask ranks room answer lent given left → given .refusal ≡ 0
-        → (j k : ℕ) → j < v → k < v → j ≢ k → Orthogonal (layer P j W) (layer P k W)
+        → (j k : ℕ) → j < v → k < v → j ≢ k → Orthogonal (layerIn P j W) (layerIn P k W)
     -- 3a. And so are any two different layers that stand in the buffer of `phases`.
-    pub buffer-orthogonal : {lent left : List ℕ} {given : Record} → Phases b r mask ranks lent given left
+    pub buffer-orthogonal : {lent left : List ℕ} {given : Record} → PhasesLeft b r mask ranks lent given left
         → given .refusal ≡ 0
-        → (j k : ℕ) → j < v → k < v → j ≢ k → Orthogonal (layer P j left) (layer P k left)
+        → (j k : ℕ) → j < v → k < v → j ≢ k → Orthogonal (layerIn P j left) (layerIn P k left)
     -- 3b. Of any two different layers, the real and the imaginary part of the weights' cross-sum are each at most
     -- 32,768·P from zero.
-    pub cross-sums-small : {lent left : List ℤ} {given : Record} → Weights b r mask ranks lent given left
+    pub cross-sums-small : {lent left : List ℤ} {given : Record} → WeightsLeft b r mask ranks lent given left
         → given .refusal ≡ 0 → (j k : ℕ) → j < v → k < v → j ≢ k
-        → let one = layer P j (pairs left) in let other = layer P k (pairs left) in
+        → let one = layerIn P j (pairs left) in let other = layerIn P k (pairs left) in
         (natAbs (cross re one other) ≤ 32768 * P) × (natAbs (cross im one other) ≤ 32768 * P)
     -- 3c. The power of each weight is at most 32,768 from 268,435,456.
-    pub powers-near : {lent left : List ℤ} {given : Record} → Weights b r mask ranks lent given left
+    pub powers-near : {lent left : List ℤ} {given : Record} → WeightsLeft b r mask ranks lent given left
         → given .refusal ≡ 0
         → (i : ℕ) → i < v * P → Within 268435456 32768 32768 (power (getD (pairs left) i none))
     -- Beyond 3c: it is at most 17,304 below and 15,121 above.
-    pub powers-within : {lent left : List ℤ} {given : Record} → Weights b r mask ranks lent given left
+    pub powers-within : {lent left : List ℤ} {given : Record} → WeightsLeft b r mask ranks lent given left
         → given .refusal ≡ 0
         → (i : ℕ) → i < v * P → Within 268435456 17304 15121 (power (getD (pairs left) i none))
     -- Beyond: the power of a port, summed over its v layers, is within v times these limits of v times 268,435,456.
-    pub port-power : {lent left : List ℤ} {given : Record} → Weights b r mask ranks lent given left
+    pub port-power : {lent left : List ℤ} {given : Record} → WeightsLeft b r mask ranks lent given left
         → given .refusal ≡ 0
         → (q : ℕ) → q < P → Within (v * 268435456) (v * 17304) (v * 15121) (portPower v P q (pairs left))
     -- Beyond: the powers of any two ports differ by at most 32,425 for each layer.
-    pub ports-differ : {lent left : List ℤ} {given : Record} → Weights b r mask ranks lent given left
+    pub ports-differ : {lent left : List ℤ} {given : Record} → WeightsLeft b r mask ranks lent given left
         → given .refusal ≡ 0 → (q q′ : ℕ) → q < P → q′ < P
         → portPower v P q (pairs left) ≤ portPower v P q′ (pairs left) + v * 32425
     -- Beyond: both limits of a weight's power occur in the table, so neither can be lowered.

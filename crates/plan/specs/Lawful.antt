@@ -20,5 +20,5 @@ pub record Lawful {R : Type 0} (b : Codebook R) (InRange : R → Type 0) : Type 
   pub sound : (r : R) → InRange r → Sound (b .plan r)
   -- every bit that a report reads lies in the mask; and where the mask has a bit for each beam, that of each layer's beam is read
   pub within : (r : R) → InRange r → (k : ℕ) → T (among k (b .bitsRead r)) → k < 8 * b .maskBytes r
-  pub reads : (r : R) → InRange r → b .beamed r ≡ true → (j : ℕ) → j < b .plan r .v
+  pub beams-read : (r : R) → InRange r → b .beamed r ≡ true → (j : ℕ) → j < b .plan r .v
       → let x = layerAt (b .plan r) j in T (among (b .width r * x .l + x .m) (b .bitsRead r))

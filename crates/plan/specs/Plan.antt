@@ -36,5 +36,5 @@ unfoldable pub matrix : Plan → List ℕ
 matrix p = join (map (columnOf p) (p .layers))
 
 -- layer j of a list that has p entries to a layer
-abbrev pub layer : {A : Type 0} → ℕ → ℕ → List A → List A
-layer p j xs = take p (drop (j * p) xs)
+abbrev pub layerIn : {A : Type 0} → ℕ → ℕ → List A → List A
+layerIn p j xs = take p (drop (j * p) xs)

@@ -8,12 +8,12 @@ use lib.ListN.{length}
 use Rattle.turn.specs.Phase.{turn, eighth, twelfth, thirtySecond}
 use Rattle.turn.specs.Column.{Setting, Divides}
 use Rattle.turn.specs.Exact.{differences}
-use Rattle.turn.specs.Cancel.{Multiples, Coarse}
+use Rattle.turn.specs.Cancel.{Multiples, Twelfths}
 use Rattle.turn.specs.Apart.{flipped, Even, Apart, Common}
 use Rattle.plan.specs.Plan.{Layer, Plan, layerAt}
 
 -- whole steps of (O1,O2) from the beam (l,m), reduced
-pub record Moved (c : Setting) (l m k1 k2 : ℕ) (x : Layer) : Type 0 where
+pub record StepsFrom (c : Setting) (l m k1 k2 : ℕ) (x : Layer) : Type 0 where
   pub across : x .l ≡ (l + k1 * c .o1) % (c .n1 * c .o1)
   pub down : x .m ≡ (m + k2 * c .o2) % (c .n2 * c .o2)
 
@@ -22,8 +22,8 @@ pub record Moved (c : Setting) (l m k1 k2 : ℕ) (x : Layer) : Type 0 where
 pub data Told (c : Setting) (x y : Layer) : Type 0 where
   by-co-phases : (co : List ℕ) (ms ns : List Bool) → x .co ≡ flipped co ms → y .co ≡ flipped co ns
       → Even (length co) ms ns → Told c x y
-  by-beams : (l m j1 j2 k1 k2 : ℕ) → Moved c l m j1 j2 x → Moved c l m k1 k2 y → Apart c j1 j2 k1 k2
-      → Common c 3 ⊎ (Common c twelfth × Coarse (differences (x .co) (y .co))) → Told c x y
+  by-beams : (l m j1 j2 k1 k2 : ℕ) → StepsFrom c l m j1 j2 x → StepsFrom c l m k1 k2 y → Apart c j1 j2 k1 k2
+      → Common c 3 ⊎ (Common c twelfth × Twelfths (differences (x .co) (y .co))) → Told c x y
 
 -- Beside its sizes: the beam of each layer is reduced; its co-phases are one for each block, whole eighths of a turn; and
 -- where P divides 16, the steps of a beam are whole 32nds of a turn.

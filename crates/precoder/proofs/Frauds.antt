@@ -11,7 +11,7 @@ use Rattle.ground.proofs.First.{first-none}
 use Rattle.report.specs.declared.Report.{Report}
 use Rattle.plan.specs.declared.Record.{Record}
 use Rattle.plan.specs.Plan.{matrix}
-use Rattle.plan.specs.Answer.{asked, test, refusal, Phases}
+use Rattle.plan.specs.Answer.{asked, test, refusal, PhasesLeft}
 use Rattle.single.specs.Plan.{plan}
 use Rattle.single.specs.Single.{single}
 use Rattle.precoder.proofs.Worked.{asks, ones, fresh, defined}
@@ -29,27 +29,27 @@ two = asks 2 1 1 2 7 0 1 0
 
 -- a call with masks of ones, on a buffer of so many entries
 abbrev Call : Report → ℕ → Record → List ℕ → Type 0
-Call r room = Phases single r (ones 1) 255 (fresh room)
+Call r room = PhasesLeft single r (ones 1) 255 (fresh room)
 
 -- what is computed of each: no test refuses it, and its matrix
-record Known (r : Report) (room : ℕ) (phases : List ℕ) : Type 0 where
+record WorkedOut (r : Report) (room : ℕ) (phases : List ℕ) : Type 0 where
   passes : refusal single (asked r (ones 1) 255 (length (fresh room))) ≡ 0
   written : matrix (plan r) ≡ phases
 
-one-known : Known one 4 (0 ∷ 24 ∷ 48 ∷ 72 ∷ [])
+one-known : WorkedOut one 4 (0 ∷ 24 ∷ 48 ∷ 72 ∷ [])
 unfolding defined
 one-known = record { passes = refl; written = refl }
 
-other-known : Known other 4 (0 ∷ 0 ∷ 48 ∷ 48 ∷ [])
+other-known : WorkedOut other 4 (0 ∷ 0 ∷ 48 ∷ 48 ∷ [])
 unfolding defined
 other-known = record { passes = refl; written = refl }
 
-two-known : Known two 8 (0 ∷ 168 ∷ 0 ∷ 168 ∷ 0 ∷ 72 ∷ 96 ∷ 168 ∷ [])
+two-known : WorkedOut two 8 (0 ∷ 168 ∷ 0 ∷ 168 ∷ 0 ∷ 72 ∷ 96 ∷ 168 ∷ [])
 unfolding defined
 two-known = record { passes = refl; written = refl }
 
 -- a call with such a report is accepted, and its matrix is written
-module _ {r : Report} {room : ℕ} {phases : List ℕ} (known : Known r room phases)
+module _ {r : Report} {room : ℕ} {phases : List ℕ} (known : WorkedOut r room phases)
     {given : Record} {left : List ℕ} (call : Call r room given left) where
   accepted : given .refusal ≡ 0
   unfolding refusal numbered

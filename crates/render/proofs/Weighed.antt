@@ -14,11 +14,11 @@ use Rattle.weight.specs.declared.Weight.{Weight}
 use Rattle.weight.specs.Table.{weight, numbers}
 use Rattle.weight.proofs.Pairs.{length-numbers, numbers-x, numbers-y, length-sampled, sampled-x, sampled-y}
 use Rattle.render.specs.Rendered.{roundedTo, weighed}
-use Rattle.render.specs.Lookup.{Sampled}
+use Rattle.render.specs.Lookup.{TableOf}
 
 -- ---- phase e, looked up in a table of phases some way apart
 
-module _ {apart : ℕ} {stored : List ℤ} (s : Sampled apart stored) where
+module _ {apart : ℕ} {stored : List ℤ} (s : TableOf apart stored) where
   pub apart-some : 0 < apart
   apart-some = left-pos apart (turn / apart) (s .whole)
 

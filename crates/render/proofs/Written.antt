@@ -18,7 +18,7 @@ use Rattle.plan.specs.Drawing.{height, columnAt, drawn, drawable, layersIn, Wri
 use Rattle.writer.proofs.Drawn.{drawable-sizes}
 use Rattle.writer.proofs.Room.{layers-drawn, layers-none, length-layers, resized}
 use Rattle.render.specs.Rendered.{fittingIn}
-use Rattle.render.specs.Lookup.{Reduced}
+use Rattle.render.specs.Lookup.{InTurn}
 
 -- ---- phases
 
@@ -59,7 +59,7 @@ module _ (s : Drawing) {n : ℕ} {lent left : List ℕ} (w : Written s lent n le
   enough : n ≤ length left
   enough = omega (arith, ap length (w .stands) ∙ length-append layers (drop (length layers) lent), w .many)
 
-  pub front-reduced : Reduced n left
+  pub front-reduced : InTurn n left
   front-reduced = record {
     long = enough;
     below = λ i h. rw (sym (getD-take n left i 0 h) ∙ ap (λ (xs : List ℕ). getD xs i 0) front) (layers-below s (length lent) i);

@@ -6,7 +6,7 @@ ghost use mathlib.Core.Path.{_≡_};
 ghost use lib.ListN.{length, take};
 ghost use Rattle.ground.specs.Lists.{over};
 ghost use Rattle.render.specs.Rendered.{fitting, weighedIn, weightsIn};
-ghost use Rattle.render.specs.Lookup.{Sampled, Reduced};
+ghost use Rattle.render.specs.Lookup.{TableOf, InTurn};
 
 // The most entries of a small matrix, and the room for it with the sixteen that the writer asks for: a call clears its own
 // room, which for few entries is much of what it costs, so that small ones pay.
@@ -42,7 +42,7 @@ pub fn phases(s: Drawing, out: &mut [Part])
 // The weights of the first n phases, where there is room for them: x and then y of each. The table has the weights of the
 // phases 0, apart, 2·apart, ..; a phase between two of these has the weight of the one below.
 fn expand(stored: &[i16], apart: usize, phases: &[Part], n: usize, out: &mut [i16])
-    requires { ⌜ Sampled apart (now stored) × Reduced n (now phases) ⌝ }
+    requires { ⌜ TableOf apart (now stored) × InTurn n (now phases) ⌝ }
     ensures { λ _. ⌜ now (out .exit) ≡ over (weighedIn apart (take n (now (phases .entry))) (length (now (out .entry))))
         (now (out .entry)) ⌝ }
 {

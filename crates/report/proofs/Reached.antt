@@ -20,8 +20,8 @@ use Rattle.report.specs.Rules.{InRange}
 use Rattle.report.proofs.InRange.{v-some, two-ports-v}
 use Rattle.report.proofs.Offsets.{whole-few, length-offsets, length-beams, saidAll}
 
-abbrev pub none : Beam
-none = beam 0 0
+abbrev pub origin : Beam
+origin = beam 0 0
 
 -- one of the setting's beams
 pub record Reached (n1 n2 : ℕ) (x : Beam) : Type 0 where
@@ -30,20 +30,20 @@ pub record Reached (n1 n2 : ℕ) (x : Beam) : Type 0 where
 
 -- every beam of a report is, and so is what stands where there is none
 pub beams-within : (r : Report) → isSetting (r .n1) (r .n2) ≡ true → (i : ℕ)
-    → Reached (r .n1) (r .n2) (getD (beams r) i none)
+    → Reached (r .n1) (r .n2) (getD (beams r) i origin)
 unfolding beams moved
 beams-within r set i = go (offsets r) i
   where
     setting : Known (r .n1) (r .n2)
     setting = known _ _ set
 
-    go : (ks : List Beam) (i : ℕ) → Reached (r .n1) (r .n2) (getD (map (moved r (base r)) ks) i none)
+    go : (ks : List Beam) (i : ℕ) → Reached (r .n1) (r .n2) (getD (map (moved r (base r)) ks) i origin)
     go [] i = record { l = setting .across-some; m = setting .down-some }
     go (k ∷ ks) zero = record { l = mod-lt _ (setting .across-some); m = mod-lt _ (setting .down-some) }
     go (k ∷ ks) (suc i) = go ks i
 
 -- one number of each of four beams, by place
-pub four-at : (f : Beam → ℕ) (xs : List Beam) (i : ℕ) → i < 4 → getD (four f xs) i 0 ≡ f (getD xs i none)
+pub four-at : (f : Beam → ℕ) (xs : List Beam) (i : ℕ) → i < 4 → getD (four f xs) i 0 ≡ f (getD xs i origin)
 four-at f xs zero h = refl
 four-at f xs (suc zero) h = refl
 four-at f xs (suc (suc zero)) h = refl
@@ -52,14 +52,14 @@ four-at f xs (suc (suc (suc (suc i)))) h = absurd (omega arith)
 
 -- ---- two ports have the one beam (0,0)
 
-one-beam : (n1 n2 : ℕ) {x : Beam} → n1 ≡ 1 → n2 ≡ 1 → Reached n1 n2 x → x ≡ none
+one-beam : (n1 n2 : ℕ) {x : Beam} → n1 ≡ 1 → n2 ≡ 1 → Reached n1 n2 x → x ≡ origin
 one-beam n1 n2 {x} e f w =
     let l : x .l < 1 = rw e at (w .l) in
     let m : x .m < 1 = rw f at (w .m) in
     ap₂ {C = Beam} beam (omega arith) (omega arith)
 
 module _ (r : Report) (h : InRange r) (two : r .n1 ≡ 1) where
-  pub two-ports-beam : (i : ℕ) → getD (beams r) i none ≡ none
+  pub two-ports-beam : (i : ℕ) → getD (beams r) i origin ≡ origin
   two-ports-beam i =
       one-beam (r .n1) (r .n2) two (one-by-one _ _ (h .setting) two) (beams-within r (h .setting) i)
 
@@ -81,6 +81,6 @@ module _ (r : Report) (h : InRange r) (two : r .n1 ≡ 1) where
         | inr l ↦ rw (ne-eqb (r .v) 1 (λ q. omega arith)) (omega arith)
       ])
 
-  pub two-ports-said : (s : Sizes) {y : Beams} → y ≡ saidOf r s false (r .v) (none ∷ none ∷ none ∷ none ∷ [])
+  pub two-ports-said : (s : Sizes) {y : Beams} → y ≡ saidOf r s false (r .v) (origin ∷ origin ∷ origin ∷ origin ∷ [])
       → y ≡ saidAll r s
   two-ports-said s p = p ∙ simp (two-ports-whole, two-ports-count, two-ports-beam)

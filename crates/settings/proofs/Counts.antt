@@ -6,7 +6,7 @@ use Rattle.ground.specs.Lists.{join}
 use Rattle.settings.specs.Settings.{settings}
 use Rattle.settings.specs.Ranges.{modeTwo, halfLength, kRows, kTwo, kThree}
 use Rattle.settings.specs.Ranges.{halvesI11, i11Values, halvesI12, i12Values, i13Values, i2Values}
-use Rattle.settings.specs.Counts.{inRange, countsByRank, reports, sum}
+use Rattle.settings.specs.Counts.{reportsAt, countsByRank, reports, sum}
 
 pub reports-mode-one : map (reports 1) settings ≡
     (4 ∷ 2 ∷ [])
@@ -24,7 +24,7 @@ pub reports-mode-one : map (reports 1) settings ≡
     ∷ (1024 ∷ 2048 ∷ 1024 ∷ 1024 ∷ 512 ∷ 512 ∷ 256 ∷ 256 ∷ [])
     ∷ (256 ∷ 512 ∷ 256 ∷ 256 ∷ 128 ∷ 128 ∷ 128 ∷ 128 ∷ [])
     ∷ []
-unfolding settings reports countsByRank inRange i11Values halvesI11 i12Values halvesI12 i13Values i2Values
+unfolding settings reports countsByRank reportsAt i11Values halvesI11 i12Values halvesI12 i13Values i2Values
     modeTwo halfLength kRows kTwo kThree
 reports-mode-one = refl
 
@@ -44,7 +44,7 @@ pub reports-mode-two : map (reports 2) settings ≡
     ∷ (1024 ∷ 2048 ∷ 1024 ∷ 1024 ∷ 512 ∷ 512 ∷ 256 ∷ 256 ∷ [])
     ∷ (512 ∷ 1024 ∷ 256 ∷ 256 ∷ 128 ∷ 128 ∷ 128 ∷ 128 ∷ [])
     ∷ []
-unfolding settings reports countsByRank inRange i11Values halvesI11 i12Values halvesI12 i13Values i2Values
+unfolding settings reports countsByRank reportsAt i11Values halvesI11 i12Values halvesI12 i13Values i2Values
     modeTwo halfLength kRows kTwo kThree
 reports-mode-two = refl
 

@@ -7,13 +7,13 @@ use Rattle.settings.specs.Settings.{ports}
 use Rattle.settings.specs.Ranges.{i11Values, i12Values, i13Values, i2Values}
 
 -- of a setting, mode and rank: the values of each index, multiplied
-unfoldable pub inRange : ℕ → ℕ → ℕ → ℕ → ℕ
-inRange n1 n2 mode v = i11Values n1 n2 mode v * i12Values n1 n2 mode v * i13Values n1 n2 v * i2Values n1 mode v
+unfoldable pub reportsAt : ℕ → ℕ → ℕ → ℕ → ℕ
+reportsAt n1 n2 mode v = i11Values n1 n2 mode v * i12Values n1 n2 mode v * i13Values n1 n2 v * i2Values n1 mode v
 
 -- at ranks v, v + 1, .., k of them
 unfoldable pub countsByRank : ℕ → ℕ → ℕ → ℕ → ℕ → List ℕ
 countsByRank n1 n2 mode v zero = []
-countsByRank n1 n2 mode v (suc k) = inRange n1 n2 mode v ∷ countsByRank n1 n2 mode (suc v) k
+countsByRank n1 n2 mode v (suc k) = reportsAt n1 n2 mode v ∷ countsByRank n1 n2 mode (suc v) k
 
 -- at ranks 1 to 8, or to P where that is less
 unfoldable pub reports : ℕ → ℕ × ℕ → List ℕ

@@ -22,8 +22,8 @@ use Rattle.single.specs.Columns.{Added, o, ½, f, f+½, Bracket, byRank,
 use Rattle.single.proofs.Layers.{bracket}
 
 -- two rows of marks agree as often as they differ
-abbrev pub balanced : List Bool → List Bool → Bool
-balanced ms ns = eqb (agreeing ms ns) (differing ms ns)
+abbrev pub halfAgree : List Bool → List Bool → Bool
+halfAgree ms ns = eqb (agreeing ms ns) (differing ms ns)
 
 -- ---- half-length beams
 
@@ -41,13 +41,13 @@ marked j = getD marks j []
 pub marks-even : (j k : ℕ) → j < 4 → k < 4 → j ≢ k → Even 4 (marked j) (marked k)
 unfolding agreeing differing every
 marks-even j k hj hk ne =
-    let pair : ℕ → ℕ → Bool = λ j k. eqb j k || balanced (marked j) (marked k) in
+    let pair : ℕ → ℕ → Bool = λ j k. eqb j k || halfAgree (marked j) (marked k) in
     let test = every-at 4 (pair j) (every-at 4 (λ j. every 4 (pair j)) tt j hj) k hk in
     let long = every-at 4 (λ j. eqb (length (marked j)) 4) tt in
     record {
       first = eqb→eq _ 4 (long j hj);
       second = eqb→eq _ 4 (long k hk);
-      even = eqb→eq _ _ (or-else (eqb j k) (balanced (marked j) (marked k)) (λ t. ne (eqb→eq j k t)) test);
+      even = eqb→eq _ _ (or-else (eqb j k) (halfAgree (marked j) (marked k)) (λ t. ne (eqb→eq j k t)) test);
     }
 
 -- ---- whole beams
@@ -70,21 +70,21 @@ second y = false ∷ takesHalf y ∷ []
 
 -- so that the second polarisations of two brackets are opposite
 abbrev pub opposite : Added → Added → Bool
-opposite y y′ = Bool·beq (takesF y) (takesF y′) && balanced (second y) (second y′)
+opposite y y′ = Bool·beq (takesF y) (takesF y′) && halfAgree (second y) (second y′)
 
 -- the beams k and k′ steps of (O1,O2) from B are two, not one
 abbrev pub distinct : ℕ → ℕ → Beam → Beam → Bool
 distinct n1 n2 k k′ = not (eqb (k .l % n1) (k′ .l % n1)) || not (eqb (k .m % n2) (k′ .m % n2))
 
 -- two brackets, with the offsets ks of the beams, are told apart by the one or the other
-abbrev pub apart : ℕ → ℕ → List Beam → Bracket → Bracket → Bool
-apart n1 n2 ks x y =
+abbrev pub toldBy : ℕ → ℕ → List Beam → Bracket → Bracket → Bool
+toldBy n1 n2 ks x y =
     opposite (x .added) (y .added)
     || distinct n1 n2 (getD ks (place (x .beam)) (beam 0 0)) (getD ks (place (y .beam)) (beam 0 0))
 
 -- the layers j and k of a report
 abbrev pairApart : Report → ℕ → ℕ → Bool
-pairApart r j k = eqb j k || apart (r .n1) (r .n2) (offsets r) (bracket (r .v) j) (bracket (r .v) k)
+pairApart r j k = eqb j k || toldBy (r .n1) (r .n2) (offsets r) (bracket (r .v) j) (bracket (r .v) k)
 
 -- the offsets depend on four numbers of the report alone
 abbrev asked : ℕ → ℕ → ℕ → ℕ → Report
@@ -106,7 +106,7 @@ unfolding settings each every byRank offsets halfLength kRows kTwo kThree agreei
 settings-apart = tt
 
 pub layers-apart : (r : Report) → InRange r → isHalf r ≡ false → (j k : ℕ) → j < r .v → k < r .v → j ≢ k
-    → T (apart (r .n1) (r .n2) (offsets r) (bracket (r .v) j) (bracket (r .v) k))
+    → T (toldBy (r .n1) (r .n2) (offsets r) (bracket (r .v) j) (bracket (r .v) k))
 unfolding offsets halfLength kRows i13Values
 layers-apart r h e j k hj hk ne =
     let p = ports (r .n1) (r .n2) in

@@ -65,10 +65,10 @@ module _ (r : Report) (h : InRange r) where
       (beam-bits-within (r .n1) (r .n2) (beams r) (beams-within r (h .setting)) k (rw e at t)))
 
   -- and above two ports the bit of each layer's beam is among them
-  reads : not (twoPorts (r .n1)) ≡ true → (j : ℕ) → j < r .v
+  beams-read : not (twoPorts (r .n1)) ≡ true → (j : ℕ) → j < r .v
       → let x = layerAt (plan r) j in T (among (down (r .n2) * x .l + x .m) (bitsRead r))
   unfolding bitsRead
-  reads above j k =
+  beams-read above j k =
       rw (layer-is r h j k, not-true (twoPorts (r .n1)) above)
       (among-at (beamBit (r .n2)) (beams r) (beam 0 0) (placeAt r j) (rw length-beams (place-within r h j k)))
 
@@ -80,7 +80,7 @@ single-lawful = record {
   in-range = λ r. (in-range r, in-range-none r);
   sound = plan-sound;
   within = within;
-  reads = reads;
+  beams-read = beams-read;
 }
 
 pub accepted-in-range : (r : Report) (mask : List ℕ) (ranks room : ℕ) → refusal single (asked r mask ranks room) ≡ 0 → InRange r

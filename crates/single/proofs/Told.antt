@@ -15,7 +15,7 @@ use Rattle.ground.proofs.Lists.{map-at}
 use Rattle.turn.specs.Phase.{turn, quarter, twelfth, difference}
 use Rattle.turn.specs.Column.{Setting}
 use Rattle.turn.specs.Exact.{differences}
-use Rattle.turn.specs.Cancel.{Coarse}
+use Rattle.turn.specs.Cancel.{Twelfths}
 use Rattle.turn.specs.Apart.{flipped, Common}
 use Rattle.settings.specs.declared.Beam.{Beam}
 use Rattle.settings.specs.Settings.{settings, isSetting, o1, o2}
@@ -25,11 +25,11 @@ use Rattle.report.specs.declared.Report.{Report}
 use Rattle.report.specs.Rules.{InRange}
 use Rattle.report.specs.Beams.{isHalf, base, offsets, moved, beams}
 use Rattle.plan.specs.Plan.{layerAt}
-use Rattle.plan.specs.Sound.{Moved, Told, by-co-phases, by-beams}
+use Rattle.plan.specs.Sound.{StepsFrom, Told, by-co-phases, by-beams}
 use Rattle.single.specs.Columns.{Added, o, ½, f, f+½, place, phaseOf, quarters}
 use Rattle.single.specs.Plan.{fOf, tOf, withBeam, whole, blockOf, plan}
 use Rattle.single.proofs.Layers.{either, two-eq, halved, bracket, halves, layer-is, place-within}
-use Rattle.single.proofs.Apart.{balanced, marks, marked, marks-even, takesF, second, distinct, layers-apart}
+use Rattle.single.proofs.Apart.{halfAgree, marks, marked, marks-even, takesF, second, distinct, layers-apart}
 
 -- ---- half-length beams: four quarters, in which half a turn is added where they are marked
 
@@ -74,7 +74,7 @@ added-quarters r f = omega arith
 added-quarters r f+½ = omega arith
 
 coarse-co : (r : Report) (y y′ : Added)
-    → Coarse (differences (0 ∷ phaseOf (fOf r) y ∷ []) (0 ∷ phaseOf (fOf r) y′ ∷ []))
+    → Twelfths (differences (0 ∷ phaseOf (fOf r) y ∷ []) (0 ∷ phaseOf (fOf r) y′ ∷ []))
 unfolding differences difference
 coarse-co r y y′ =
     let z : difference (phaseOf (fOf r) y) (phaseOf (fOf r) y′) % twelfth ≡ 0 =
@@ -86,7 +86,7 @@ setting r = record { n1 = r .n1; n2 = r .n2; o1 = o1 (r .n1); o2 = o2 (r .n2) }
 
 -- a layer with the beam at a place stands k steps from B
 whole-moved : (r : Report) (at : ℕ) (co : List ℕ) → at < length (offsets r) → let k = getD (offsets r) at (beam 0 0) in
-    Moved (setting r) (base r .l) (base r .m) (k .l) (k .m) (withBeam (getD (beams r) at (beam 0 0)) co)
+    StepsFrom (setting r) (base r .l) (base r .m) (k .l) (k .m) (withBeam (getD (beams r) at (beam 0 0)) co)
 unfolding beams moved
 whole-moved r at co h =
     let k = getD (offsets r) at (beam 0 0) in
@@ -111,7 +111,7 @@ module _ (r : Report) (h : InRange r) (j k : ℕ) (hj : j < r .v) (hk : k < r .v
       let a = getD (offsets r) (place (x .beam)) (beam 0 0) in
       let b = getD (offsets r) (place (y .beam)) (beam 0 0) in
       let same-f = Bool·beq (takesF (x .added)) (takesF (y .added)) in
-      let even = balanced (second (x .added)) (second (y .added)) in
+      let even = halfAgree (second (x .added)) (second (y .added)) in
       elim (or-cases (same-f && even) (distinct (r .n1) (r .n2) a b) (layers-apart r h e j k hj hk ne)) [
         | inl t ↦
             let same = same-truth (takesF (x .added)) (takesF (y .added)) (and-left same-f even t) in

@@ -8,11 +8,11 @@ use lib.Arith.{digits-mod}
 use lib.ListN.{length, take, drop, getD, length-append, length-take, length-drop, length-map}
 use lib.Seq.{drop-cons}
 use Rattle.plan.specs.declared.Record.{Record}
-use Rattle.plan.specs.Plan.{layer}
+use Rattle.plan.specs.Plan.{layerIn}
 use Rattle.plan.proofs.Layers.{layer-before}
-use Rattle.text.specs.Words.{ending, joined, written, ended, lineOf, headed}
+use Rattle.text.specs.Words.{ending, joined, decimal, ended, lineOf, headed}
 use Rattle.text.specs.Text.{linesOf, okText, refusedText, unreadableText}
-use Rattle.text.proofs.Words.{written-few, written-one-few, written-two-few, line-few}
+use Rattle.text.proofs.Words.{decimal-few, decimal-one-few, decimal-two-few, line-few}
 
 -- ---- lines for layers
 
@@ -30,7 +30,7 @@ module _ (p : ℕ) (xs : List ℕ) where
   line-rest j i (suc q) h e =
       let place : (j * p + i) % p ≡ i = digits-mod j (omega arith) in
       let left : p - 1 - i ≡ q = omega arith in
-      let size = length-map (take q (drop (suc (j * p + i)) xs)) written in
+      let size = length-map (take q (drop (suc (j * p + i)) xs)) decimal in
       let long : length (take q (drop (suc (j * p + i)) xs)) ≡ q = simp (length-take, length-drop) (omega arith) in
       line-rest j (suc i) q h (omega arith)
       ∙ rw (add-suc, place, left, drop-cons xs (j * p + i) 0 (omega arith), size, long) (simp append-assoc)
@@ -47,8 +47,8 @@ module _ (p : ℕ) (xs : List ℕ) where
   unfolding linesOf
   lines-few zero = omega arith
   lines-few (suc n) =
-      let short : length (layer p n xs) ≤ p = simp length-take (omega arith) in
-      simp length-append (omega (arith, lines-few n, line-few (layer p n xs)))
+      let short : length (layerIn p n xs) ≤ p = simp length-take (omega arith) in
+      simp length-append (omega (arith, lines-few n, line-few (layerIn p n xs)))
 
 -- lines that have a phase have some
 pub width-some : (v p i : ℕ) → i < v * p → 1 ≤ p
@@ -83,4 +83,4 @@ pub ok-few : (a : Record) → a .ports < 100 → a .layers < 10 → length (okTe
 ok-few a h k =
     rw (ok-words a)
     (simp length-append
-    (omega (arith, written-two-few (a .ports) h, written-one-few (a .layers) k, written-few (a .scale))))
+    (omega (arith, decimal-two-few (a .ports) h, decimal-one-few (a .layers) k, decimal-few (a .scale))))

@@ -11,7 +11,7 @@ use borrow.Author.Tests.{leb-true, le-leb, eq-eqb, ne-eqb}
 use Rattle.ground.proofs.Booleans.{and-true-left, and-true-right, cond-both}
 use Rattle.plan.specs.declared.Record.{Record}
 use Rattle.text.specs.Text.{linesOf, okText, refusedText, unreadableText, recordText, printable, longest}
-use Rattle.text.proofs.Words.{written-few}
+use Rattle.text.proofs.Words.{decimal-few}
 use Rattle.text.proofs.Lines.{lines-few, lines-before, ok-words, ok-few, refused-words, unreadable-bytes}
 
 -- ---- by its refusal
@@ -81,7 +81,7 @@ record-few a phases l =
     let first = ok-few a (omega (arith, l .ports)) (omega (arith, l .layers)) in
     cond-both (λ (text : List ℕ). length text ≤ longest) (eqb (a .refusal) 0)
     (simp length-append (omega (arith, first, lines-few (a .ports) phases (a .layers))))
-    (rw refused-words (simp length-append (omega (arith, written-few (a .refusal)))))
+    (rw refused-words (simp length-append (omega (arith, decimal-few (a .refusal)))))
 
 -- and none is empty
 pub record-some : (a : Record) (phases : List ℕ) → 0 < length (recordText a phases)

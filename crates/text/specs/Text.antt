@@ -7,7 +7,7 @@ use lib.Dec.{eqb, leb}
 use lib.ListN.{length, take, drop}
 use Rattle.ground.specs.Cases.{_⇒_∣_}
 use Rattle.plan.specs.declared.Record.{Record}
-use Rattle.plan.specs.Plan.{layer}
+use Rattle.plan.specs.Plan.{layerIn}
 use Rattle.text.specs.Words.{lineOf, headed}
 
 -- `ok`, P, v and the scale
@@ -25,7 +25,7 @@ unreadableText = headed (117 ∷ 110 ∷ 114 ∷ 101 ∷ 97 ∷ 100 ∷ 97 ∷ 9
 -- a line for each of the first n layers of a list that has p entries to a layer
 unfoldable pub linesOf : ℕ → ℕ → List ℕ → List ℕ
 linesOf zero p xs = []
-linesOf (suc n) p xs = linesOf n p xs ++ lineOf (layer p n xs)
+linesOf (suc n) p xs = linesOf n p xs ++ lineOf (layerIn p n xs)
 
 -- the text of a record and its phases
 unfoldable pub recordText : Record → List ℕ → List ℕ

@@ -30,20 +30,20 @@ abbrev pub digit : ℕ → ℕ
 digit n = nought + n % 10
 
 -- a number below 1000 in decimals, without leading zeros; of a larger one the last three digits
-unfoldable pub written : ℕ → List ℕ
-written n =
+unfoldable pub decimal : ℕ → List ℕ
+decimal n =
     ltb n 10 ⇒ digit n ∷ []
     ∣ ltb n 100 ⇒ digit (n / 10) ∷ digit n ∷ []
     ∣ digit (n / 100) ∷ digit (n / 10) ∷ digit n ∷ []
 
 -- a number, and what follows it where so many words are left
 abbrev pub ended : ℕ → ℕ → List ℕ
-ended n left = written n ++ ending left ∷ []
+ended n left = decimal n ++ ending left ∷ []
 
 -- a line of numbers
 unfoldable pub lineOf : List ℕ → List ℕ
-lineOf xs = joined (map written xs)
+lineOf xs = joined (map decimal xs)
 
 -- a word, and numbers after it
 unfoldable pub headed : List ℕ → List ℕ → List ℕ
-headed word xs = joined (word ∷ map written xs)
+headed word xs = joined (word ∷ map decimal xs)

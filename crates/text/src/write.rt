@@ -5,7 +5,7 @@ ghost use mathlib.Core.Path.{_≡_};
 ghost use mathlib.Core.List.{_++_};
 ghost use Prim.Native.Nat.{_+_, _*_, _≤_};
 ghost use lib.ListN.{length};
-ghost use Rattle.text.specs.Words.{digit, written, ended};
+ghost use Rattle.text.specs.Words.{digit, decimal, ended};
 ghost use Rattle.text.specs.Text.{linesOf, okText, Adds};
 
 // The last digit of a number.
@@ -18,7 +18,7 @@ fn digit(n: u32) -> u8
 // A number in decimals, of three digits at most.
 fn decimal(n: u32, at: usize, out: &mut [u8]) -> usize
     requires { ⌜ at + 3 ≤ length (now out) ⌝ }
-    ensures { λ k. ⌜ Adds (written n) at (now (out .entry)) k (now (out .exit)) × (k ≤ at + 3) ⌝ }
+    ensures { λ k. ⌜ Adds (decimal n) at (now (out .entry)) k (now (out .exit)) × (k ≤ at + 3) ⌝ }
 {
     let units = digit(n);
     if n < 10 {

@@ -16,7 +16,7 @@ use Rattle.turn.proofs.Steps.{gap, step-gap, gap-round, gap-some, gap-m
 
 -- some turn only permutes xs: no whole one, and a multiple of whatever divides both the N1th and the N2th part of a
 -- turn
-pub record Turned (c : Setting) (xs : List ℕ) : Type 0 where
+pub record TurnedBy (c : Setting) (xs : List ℕ) : Type 0 where
   pub by : ℕ
   pub some : phase by ≢ 0
   pub multiple : {m : ℕ} → Common c m → by % m ≡ 0
@@ -50,7 +50,7 @@ module _ (c : Setting) (whole : Divides c) (l m j1 j2 k1 k2 : ℕ) where
       differences-grid _ _ _ gap1 _ _ _ gap2
       (step-gap (c .n1) (c .o1) (whole .rows) l j1 k1) (step-gap (c .n2) (c .o2) (whole .columns) m j2 k2)
 
-  pub beams-turned : Apart c j1 j2 k1 k2 → Turned c (differences first second)
+  pub beams-turned : Apart c j1 j2 k1 k2 → TurnedBy c (differences first second)
   beams-turned a = elim a [
     | inl ne ↦ record {
       by = gap1;

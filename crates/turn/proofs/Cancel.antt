@@ -7,7 +7,7 @@ use mathlib.Core.List.{List, map}
 use Prim.Native.Nat.{ℕ, _+_, _*_}
 use native.Mathlib.Omega.{arith}
 use lib.ListN.{length}
-use Rattle.turn.specs.Cancel.{Coarse, Cancels, opposites, thirds, Invariant}
+use Rattle.turn.specs.Cancel.{Twelfths, Cancels, opposites, thirds, Invariant}
 use Rattle.turn.specs.Phase.{half, third, twelfth, phase}
 use Rattle.turn.specs.Column.{Setting, Divides, beam, column}
 use Rattle.turn.specs.Exact.{differences, Orthogonal}
@@ -24,7 +24,7 @@ pub cancels-orthogonal : (xs ys : List ℕ) → Cancels (differences xs ys) → 
 cancels-orthogonal xs ys (opposites p) = orthogonal-turned {g = half} xs ys (omega arith) p
 cancels-orthogonal xs ys (thirds p a) = orthogonal-turned {g = third} xs ys (omega arith) p
 
-coarse-phases : {xs : List ℕ} → Coarse xs → Coarse (map phase xs)
+coarse-phases : {xs : List ℕ} → Twelfths xs → Twelfths (map phase xs)
 coarse-phases = multiples-phases twelfth (omega arith)
 
 -- ---- columns
@@ -42,7 +42,7 @@ module _ (c : Setting) (whole : Divides c) (l m j1 j2 k1 k2 : ℕ) (a : Apart c 
       differences (column co (beam c (l + j1 * c .o1) (m + j2 * c .o2)))
       (column co′ (beam c (l + k1 * c .o1) (m + k2 * c .o2)))
 
-  coarse-between : Common c twelfth → Coarse (differences co co′) → Coarse between
+  coarse-between : Common c twelfth → Twelfths (differences co co′) → Twelfths between
   coarse-between p h =
       rw (differences-column co co′ _ _ (same-length c whole l m j1 j2 k1 k2))
       (coarse-phases (multiples-product twelfth h
@@ -52,7 +52,7 @@ module _ (c : Setting) (whole : Divides c) (l m j1 j2 k1 k2 : ℕ) (a : Apart c 
       (coarse-phases
       (multiples-steps twelfth (c .n2) _ (gap-multiple (c .n2) (c .o2) (whole .columns) twelfth j2 k2 (p .columns)))))))))
 
-  pub beams-cancel : Common c 3 ⊎ (Common c twelfth × Coarse (differences co co′)) → Cancels between
+  pub beams-cancel : Common c 3 ⊎ (Common c twelfth × Twelfths (differences co co′)) → Cancels between
   beams-cancel s =
       let t = beams-turned c whole l m j1 j2 k1 k2 a in
       let i : Invariant (t .by) between = turned-by-beams co co′ _ _ (same-length c whole l m j1 j2 k1 k2) (t .invariant) in

@@ -56,8 +56,8 @@ unfolding beam step
 beam-reduced c l m = rw (mod-mod l (c .n1 * c .o1), mod-mod m (c .n2 * c .o2))
 
 -- where w divides a turn, a·l·turn/w is a steps of l·(turn/w)
-pub printed : (a l w : ℕ) → w * (turn / w) ≡ turn → a * l * turn / w ≡ a * (l * (turn / w))
-printed a l w e =
+pub as-printed : (a l w : ℕ) → w * (turn / w) ≡ turn → a * l * turn / w ≡ a * (l * (turn / w))
+as-printed a l w e =
     ap (λ (x : ℕ). x / w) (omega (arith, ap (λ (x : ℕ). a * l * x) e))
     ∙ mul-div-cancel (a * (l * (turn / w))) (left-pos w (turn / w) e)
 
@@ -71,7 +71,7 @@ module _ (c : Setting) (whole : Divides c) (l m a b : ℕ) (ha : a < c .n1) (hb 
   unfolding beam step
   beam-entry =
       grid-entry (c .n1) _ (c .n2) _ a b ha hb
-      ∙ sym (ap₂ _+_ (printed a _ (c .n1 * c .o1) (whole .rows)) (printed b _ (c .n2 * c .o2) (whole .columns)))
+      ∙ sym (ap₂ _+_ (as-printed a _ (c .n1 * c .o1) (whole .rows)) (as-printed b _ (c .n2 * c .o2) (whole .columns)))
 
   -- the entry of a column at (a,b) of block q
   pub entry : (co : List ℕ) (q : ℕ) → q < length co

@@ -23,10 +23,10 @@ abbrev pub Multiples : ℕ → List ℕ → Type 0
 Multiples g xs = All (λ x. x % g ≡ 0) xs
 
 -- whole twelfths of a turn
-abbrev pub Coarse : List ℕ → Type 0
-Coarse xs = Multiples twelfth xs
+abbrev pub Twelfths : List ℕ → Type 0
+Twelfths xs = Multiples twelfth xs
 
 -- Weights cancel in opposites at any phases, and in thirds at whole twelfths of a turn.
 pub data Cancels (xs : List ℕ) : Type 0 where
   opposites : Invariant half xs → Cancels xs
-  thirds : Invariant third xs → Coarse xs → Cancels xs
+  thirds : Invariant third xs → Twelfths xs → Cancels xs

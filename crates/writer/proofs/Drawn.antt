@@ -19,7 +19,7 @@ use Rattle.plan.specs.Plan.{Layer, Plan, past, layerAt, columnOf, matrix}
 use Rattle.plan.specs.declared.Drawing.{Drawing}
 use Rattle.plan.specs.Drawing.{height, coRow, beamAt, columnAt, drawn, drawable}
 use Rattle.turn.proofs.Columns.{length-column}
-use Rattle.writer.specs.Blocks.{small, Sizes}
+use Rattle.writer.specs.Blocks.{small, DrawnIn}
 use Rattle.writer.proofs.Columns.{length-row}
 
 -- ---- layers
@@ -80,7 +80,7 @@ small-sizes v pairs rows columns e =
       leb-true _ _ (and-true-right four (leb (rows * columns) 16) e),
     )
 
-pub drawable-sizes : (s : Drawing) (room : ℕ) → drawable s room ≡ true → Sizes s room
+pub drawable-sizes : (s : Drawing) (room : ℕ) → drawable s room ≡ true → DrawnIn s room
 unfolding drawable
 drawable-sizes s room e =
     let tested : Bool = small (s .v) (s .pairs) (s .rows) (s .columns) in
@@ -103,7 +103,7 @@ pub some-needed : (t : Bool) {n : ℕ} (m : ℕ) → n ≡ (t ⇒ m + 16 ∣ 0) 
 some-needed true m e some = (refl, e)
 some-needed false m e some = absurd (some e)
 
-pub sizes-drawable : (s : Drawing) (room : ℕ) → Sizes s room → drawable s room ≡ true
+pub sizes-drawable : (s : Drawing) (room : ℕ) → DrawnIn s room → drawable s room ≡ true
 unfolding drawable
 sizes-drawable s room z =
     rw (

@@ -15,7 +15,7 @@ use Rattle.turn.proofs.Lists.{length-grid}
 use Rattle.turn.proofs.Columns.{length-column}
 use Rattle.plan.specs.declared.Drawing.{Drawing}
 use Rattle.plan.specs.Drawing.{height, coAt, coRow, columnAt, drawn}
-use Rattle.writer.specs.Blocks.{placed, Put, Laid}
+use Rattle.writer.specs.Blocks.{placed, PutAt, Laid}
 use Rattle.writer.proofs.Columns.{length-row, column-next, length-placed, block-placed}
 use Rattle.writer.proofs.Drawn.{drawn-next, length-drawn}
 
@@ -45,7 +45,7 @@ laid-append {lent} {mid} {left} {xs} {ys} {at} {to} {end} p q = record {
 
 -- the first h of sixteen entries that are put down
 pub laid-put : {left : List ℕ} (lent block : List ℕ) (at h : ℕ)
-    → Put lent at block left → length left ≡ length lent → length block ≡ 16 → h ≤ 16
+    → PutAt lent at block left → length left ≡ length lent → length block ≡ 16 → h ≤ 16
     → at + 16 ≤ length lent → Laid lent at (take h block) (at + h) left
 laid-put {left} lent block at h e long sixteen few room = record {
   place = omega (arith, length-take-le h block (omega arith));
@@ -63,7 +63,7 @@ laid-put {left} lent block at h e long sixteen few room = record {
 -- one block more of a column, of which sixteen places are put down
 pub laid-block : {lent mid left block : List ℕ} {at to : ℕ} (co : List ℕ) (code q rows w x y : ℕ)
     → Laid lent at (column (coRow co code q) (grid rows x w y)) to mid → block ≡ placed w x y (coAt co code q)
-    → Put mid to block left → length left ≡ length mid → 1 ≤ w → rows * w ≤ 16 → to + 16 ≤ length mid
+    → PutAt mid to block left → length left ≡ length mid → 1 ≤ w → rows * w ≤ 16 → to + 16 ≤ length mid
     → Laid lent at (column (coRow co code (q + 1)) (grid rows x w y)) (to + rows * w) left
 laid-block {lent} {mid} {left} {block} {at} {to} co code q rows w x y before drawn e long some few room =
     subst (λ (xs : List ℕ). Laid lent at xs (to + rows * w) left) (sym (column-next co code q (grid rows x w y)))
@@ -105,7 +105,7 @@ copied-last out at p h =
 
 -- The sixteen entries past the end are put back: then all after it is as lent.
 pub put-back : {left kept : List ℕ} {to : ℕ} (lent mid xs : List ℕ) (end : ℕ) → Laid lent 0 xs end mid → to ≡ end
-    → kept ≡ take 16 (drop to lent) → Put mid to kept left → left ≡ xs ++ drop end lent
+    → kept ≡ take 16 (drop to lent) → PutAt mid to kept left → left ≡ xs ++ drop end lent
 put-back lent mid xs end p same k e =
     e
     ∙ rw (k, same)

@@ -44,14 +44,14 @@ products v n h few pairs block =
 
 -- ---- layers: the code of one, and its place after j others of h entries
 
-pub record Layer (v j : ℕ) : Type 0 where
+pub record LayerFits (v j : ℕ) : Type 0 where
   pub fits : Fits w64 j
   pub twice : Fits w64 (j * 2)
   pub below : j < 8
   pub next : Fits w32 (j + 1)
 
-pub layer : (v j : ℕ) → v ≤ 8 → j < v → Layer v j
-layer v j few h = record { fits = omega arith; twice = omega arith; below = omega arith; next = omega arith }
+pub layer-fits : (v j : ℕ) → v ≤ 8 → j < v → LayerFits v j
+layer-fits v j few h = record { fits = omega arith; twice = omega arith; below = omega arith; next = omega arith }
 
 pub code-fits-4 : (x : ℕ) → Fits w64 (x % 4 * 4)
 code-fits-4 x = omega arith
@@ -67,7 +67,7 @@ byte-below x = omega arith
 pub blocks-few : (pairs : ℕ) → pairs ≤ 4 → 2 * pairs ≤ 8
 blocks-few pairs h = omega arith
 
-pub record Pair (pairs q : ℕ) : Type 0 where
+pub record PairFits (pairs q : ℕ) : Type 0 where
   pub first : q < 8
   pub second : q + 1 < 8
   pub next : q + 1 + 1 ≤ 8
@@ -75,8 +75,8 @@ pub record Pair (pairs q : ℕ) : Type 0 where
   pub even : (q + 1 + 1) % 2 ≡ 0
   pub falls : 2 * pairs - (q + 1 + 1) < 2 * pairs - q
 
-pub pair : (pairs q : ℕ) → pairs ≤ 4 → q < 2 * pairs → q % 2 ≡ 0 → Pair pairs q
-pair pairs q few h even = record {
+pub pair-fits : (pairs q : ℕ) → pairs ≤ 4 → q < 2 * pairs → q % 2 ≡ 0 → PairFits pairs q
+pair-fits pairs q few h even = record {
   first = omega arith;
   second = omega arith;
   next = omega arith;
@@ -86,14 +86,14 @@ pair pairs q few h even = record {
 }
 
 -- their places, of h entries each
-pub record Room (to h long : ℕ) : Type 0 where
+pub record PairRoom (to h long : ℕ) : Type 0 where
   pub first : to + 16 ≤ long
   pub second : (long′ : ℕ) → long′ ≡ long → to + h + 16 ≤ long′
   pub fits : Fits w64 (to + h)
   pub fits-both : Fits w64 (to + h + h)
 
-pub pair-room : (at h pairs q to room long : ℕ) → to ≡ at + q * h → Pair pairs q → at + 2 * (pairs * h) + 16 ≤ room
-    → long ≡ room → room < 2 ^ 64 → Room to h long
+pub pair-room : (at h pairs q to room long : ℕ) → to ≡ at + q * h → PairFits pairs q → at + 2 * (pairs * h) + 16 ≤ room
+    → long ≡ room → room < 2 ^ 64 → PairRoom to h long
 pair-room at h pairs q to room long e p k same few =
     let all : to + h + h + 16 ≤ long = omega (arith, mul-le-mul-right h (p .end)) in
     record { first = omega arith; second = λ long′ e′. omega arith; fits = omega arith; fits-both = omega arith }

@@ -15,8 +15,8 @@ unfoldable pub placed : ℕ → ℕ → ℕ → ℕ → List ℕ
 placed w x y c = take 16 (column (c ∷ []) (grid 16 x w y))
 
 -- sixteen places are put down from place `at` on
-abbrev pub Put : List ℕ → ℕ → List ℕ → List ℕ → Type 0
-Put lent at block left = left ≡ take at lent ++ block ++ drop (at + 16) lent
+abbrev pub PutAt : List ℕ → ℕ → List ℕ → List ℕ → Type 0
+PutAt lent at block left = left ≡ take at lent ++ block ++ drop (at + 16) lent
 
 -- xs stands from place `at` to place `to`. What is before, and what is sixteen entries after `to` or more, is as lent.
 pub record Laid (lent : List ℕ) (at : ℕ) (xs : List ℕ) (to : ℕ) (left : List ℕ) : Type 0 where
@@ -34,7 +34,7 @@ abbrev pub need : ℕ → ℕ → ℕ → ℕ → ℕ
 need v pairs rows columns = v * (2 * (pairs * (rows * columns))) + 16
 
 -- sizes that can be drawn, in numbers
-pub record Sizes (s : Drawing) (room : ℕ) : Type 0 where
+pub record DrawnIn (s : Drawing) (room : ℕ) : Type 0 where
   pub few : s .v ≤ 8
   pub pairs : s .pairs ≤ 4
   pub some : 1 ≤ s .columns

@@ -6,7 +6,7 @@ ghost use Prim.Native.Nat.{_+_, _*_, _<_, _≤_};
 ghost use lib.ListN.{length, take, drop};
 ghost use Rattle.turn.specs.Column.{grid, column};
 ghost use Rattle.plan.specs.Drawing.{coAt, coRow, stepX, stepY};
-ghost use Rattle.writer.specs.Blocks.{placed, Put, Laid};
+ghost use Rattle.writer.specs.Blocks.{placed, PutAt, Laid};
 
 // The places of a block, the most entries that one has: a loop over them has the same number of turns whatever the setting.
 pub const PLACES: usize = 16;
@@ -21,7 +21,7 @@ const HALF: u16 = TURN / 2;
 // product by 34 / w and a division by 32 are a division by w.
 fn draw(out: &mut [Part], at: usize, w: u32, x: u16, y: u16, c: u16, d: u16) -> [Part; PLACES]
     requires { ⌜ (1 ≤ w) × (w ≤ 4) × (x ≤ 255) × (y ≤ 255) × (c ≤ 511) × (d ≤ 511) × (at + 16 ≤ length (now out)) ⌝ }
-    ensures { λ second. ⌜ Put (now (out .entry)) at (placed w x y c) (now (out .exit)) × (second ≡ placed w x y d) ⌝ }
+    ensures { λ second. ⌜ PutAt (now (out .entry)) at (placed w x y c) (now (out .exit)) × (second ≡ placed w x y d) ⌝ }
 {
     let n = w as u16;
     let k = 34 / n;
@@ -42,7 +42,7 @@ fn draw(out: &mut [Part], at: usize, w: u32, x: u16, y: u16, c: u16, d: u16) -> 
 // Puts sixteen entries from place `at` on.
 pub fn put(out: &mut [Part], at: usize, block: [Part; PLACES])
     requires { ⌜ at + 16 ≤ length (now out) ⌝ }
-    ensures { λ _. ⌜ Put (now (out .entry)) at block (now (out .exit)) ⌝ }
+    ensures { λ _. ⌜ PutAt (now (out .entry)) at block (now (out .exit)) ⌝ }
 {
     let mut i = 0;
     while i < PLACES {

@@ -8,7 +8,7 @@ ghost use lib.Dec.{leb};
 ghost use lib.ListN.{length};
 ghost use Rattle.ground.specs.Cases.{_⇒_∣_};
 ghost use Rattle.plan.specs.Drawing.{height, drawn, Written};
-ghost use Rattle.writer.specs.Blocks.{Laid, small, need, Sizes};
+ghost use Rattle.writer.specs.Blocks.{Laid, small, need, DrawnIn};
 
 mod fill;
 
@@ -30,7 +30,7 @@ fn needed(v: u32, pairs: u32, rows: u32, columns: u32, room: usize) -> usize
 
 // The layers, one after the other. Some entries after the last change, fewer than sixteen.
 fn layers(s: Drawing, out: &mut [Part])
-    requires { ⌜ Sizes s (length (now out)) ⌝ }
+    requires { ⌜ DrawnIn s (length (now out)) ⌝ }
     ensures { λ _. ⌜ Laid (now (out .entry)) 0 (drawn s (s .v)) (s .v * height s) (now (out .exit)) ⌝ }
 {
     let v = s.v;

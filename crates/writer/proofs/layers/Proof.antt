@@ -9,7 +9,7 @@ use mir.Facts.{fits-lit, fits-lt}
 use Rattle.plan.specs.declared.Drawing.{Drawing}
 use Rattle.plan.specs.Drawing.{height, beamAt, columnAt, drawn}
 use Rattle.writer.specs.Blocks.{Laid}
-use Rattle.writer.proofs.Numbers.{falls, next-within, Layer, layer, code-fits-4, layer-within}
+use Rattle.writer.proofs.Numbers.{falls, next-within, LayerFits, layer-fits, code-fits-4, layer-within}
 use Rattle.writer.proofs.Laid.{laid-none, laid-layer, drawn-place}
 use Rattle.writer.proofs.layers.Statement.{statement}
 use Rattle.writer.proofs.layers.Tie as tie
@@ -34,8 +34,8 @@ abbrev turn-of : tie.After-slice-known2 Inv-loop μ-loop → tie.In-loop Inv-loo
 turn-of c = c .before .before .before .before
 
 -- the layer of a turn
-layer-of : (t : tie.In-loop Inv-loop μ-loop) → Layer (start-of (t .before) .args .s .v) (t .before .loop .j)
-layer-of t = layer _ _ (start-of (t .before) .pre .few) (t .loop-test .taken)
+layer-of : (t : tie.In-loop Inv-loop μ-loop) → LayerFits (start-of (t .before) .args .s .v) (t .before .loop .j)
+layer-of t = layer-fits _ _ (start-of (t .before) .pre .few) (t .loop-test .taken)
 
 loop-holds : tie.Need-loop-holds Inv-loop μ-loop
 unfolding drawn

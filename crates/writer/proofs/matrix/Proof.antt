@@ -8,7 +8,7 @@ use denote.Ref.{now}
 use lib.ListN.{length, drop}
 use borrow.Author.Needs.{needs}
 use Rattle.plan.specs.Drawing.{height, drawn, drawable}
-use Rattle.writer.specs.Blocks.{Sizes}
+use Rattle.writer.specs.Blocks.{DrawnIn}
 use Rattle.writer.proofs.Laid.{copied-last, put-back}
 use Rattle.writer.proofs.Drawn.{drawable-sizes, none-needed, some-needed}
 use Rattle.writer.proofs.Room.{layers-drawn, layers-none, length-layers}
@@ -21,7 +21,7 @@ passed : (c : tie.Else1) → let a = c .before .before .before .args in
 unfolding drawable
 passed c = some-needed _ _ (c .before .needed .ensures) (c .if1 .left)
 
-sizes : (c : tie.Else1) → let a = c .before .before .before .args in Sizes (a .s) (length (now (a .out)))
+sizes : (c : tie.Else1) → let a = c .before .before .before .args in DrawnIn (a .s) (length (now (a .out)))
 sizes c = drawable-sizes _ _ (passed c .0)
 
 -- so that there is room for the layers and for sixteen entries

@@ -4,19 +4,19 @@ use native.Mathlib.Numerals.{add-one, add-two}
 use native.Mathlib.Omega.{arith}
 use lib.ListN.{length-set}
 use borrow.Author.Tests.{lt-ltb, le-ltb}
-use Rattle.text.specs.Words.{written}
+use Rattle.text.specs.Words.{decimal}
 use Rattle.text.proofs.Adds.{adds-stores}
 use Rattle.text.proofs.write.decimal.Statement.{statement}
 use Rattle.text.proofs.write.decimal.Tie as tie
 
 returns : tie.Need-returns
-unfolding written
+unfolding decimal
 returns c =
     let units = c .before .digit in
     (adds-stores (units .result ∷ []) _ _ (rw (lt-ltb _ 10 (c .if1 .taken), units .ensures)) (omega arith), omega arith)
 
 returns-2 : tie.Need-returns-2
-unfolding written
+unfolding decimal
 returns-2 c =
     let tens = c .before in
     let units = tens .before .before .digit in
@@ -28,7 +28,7 @@ returns-2 c =
     )
 
 returns-3 : tie.Need-returns-3
-unfolding written
+unfolding decimal
 returns-3 c =
     let tens = c .before .before in
     let units = tens .before .before .digit in

@@ -9,7 +9,7 @@ use mir.Facts.{fits-below, fits-lit, fits-lt}
 use Rattle.turn.specs.Column.{product, grid, column}
 use Rattle.plan.specs.Drawing.{coRow, stepX, stepY}
 use Rattle.writer.specs.Blocks.{placed, Laid}
-use Rattle.writer.proofs.Numbers.{byte-below, blocks-few, Pair, pair, Room, pair-room}
+use Rattle.writer.proofs.Numbers.{byte-below, blocks-few, PairFits, pair-fits, PairRoom, pair-room}
 use Rattle.writer.proofs.Laid.{laid-none, laid-block, column-place}
 use Rattle.writer.proofs.fill.column.Statement.{statement}
 use Rattle.writer.proofs.fill.column.Tie as tie
@@ -22,11 +22,11 @@ abbrev μ-loop : tie.MeasureT-loop
 μ-loop out₀ at pairs rows w step co code x y n h q₀ to₀ out q to = n - q
 
 -- the pair of a turn, and its places
-pair-of : (t : tie.In-loop Inv-loop μ-loop) → Pair (t .before .before .before .args .pairs) (t .before .loop .q)
-pair-of t = pair _ _ (t .before .before .before .pre .0) (t .loop-test .taken) (t .before .loop .inv .1)
+pair-of : (t : tie.In-loop Inv-loop μ-loop) → PairFits (t .before .before .before .args .pairs) (t .before .loop .q)
+pair-of t = pair-fits _ _ (t .before .before .before .pre .0) (t .loop-test .taken) (t .before .loop .inv .1)
 
 room : (t : tie.In-loop Inv-loop μ-loop) → let a = t .before .before .before .args in
-    Room (t .before .loop .to) (a .rows * a .w) (length (t .before .loop .out))
+    PairRoom (t .before .loop .to) (a .rows * a .w) (length (t .before .loop .out))
 room t =
     let s = t .before .before .before in
     let l = t .before .loop in
