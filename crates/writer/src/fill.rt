@@ -1,9 +1,8 @@
 // Blocks of a column, in pairs: both polarisations of a panel.
 use turn::Part;
 ghost use mathlib.Core.Path.{_≡_};
-ghost use mathlib.Core.List.{_++_};
 ghost use Prim.Native.Nat.{_+_, _*_, _<_, _≤_};
-ghost use lib.ListN.{length, take, drop};
+ghost use lib.ListN.{length};
 ghost use Rattle.turn.specs.Column.{grid, column};
 ghost use Rattle.plan.specs.Drawing.{coAt, coRow, stepX, stepY};
 ghost use Rattle.writer.specs.Blocks.{placed, PutAt, Laid};

@@ -34,9 +34,6 @@ fn layers(s: Drawing, out: &mut [Part])
     ensures { λ _. ⌜ Laid (now (out .entry)) 0 (drawn s (s .v)) (s .v * height s) (now (out .exit)) ⌝ }
 {
     let v = s.v;
-    let pairs = s.pairs;
-    let rows = s.rows;
-    let columns = s.columns;
     let steps = s.steps;
     let co = s.co;
     let codes = s.codes;
@@ -46,7 +43,7 @@ fn layers(s: Drawing, out: &mut [Part])
         let code = codes[j as usize];
         let place = (code / 512 % 4) as usize;
         let step = steps[place];
-        at = fill::column(out, at, pairs, rows, columns, step, co, code);
+        at = fill::column(out, at, s.pairs, s.rows, s.columns, step, co, code);
         j += 1;
     }
 }

@@ -1,12 +1,10 @@
 -- `layers` meets its contract: each turn has the column of the next layer put after those that stand.
 use mathlib.Core.Path.{_≡_, ap, subst₂, _∙_}
-use mathlib.Core.List.{List}
 use Prim.Native.Nat.{ℕ, _-_, _*_, _≤_, zero-le}
 use native.Mathlib.Nat.{le-antisymm, mod-lt}
 use denote.Ref.{now}
 use lib.Dec.{lit<}
 use mir.Facts.{fits-lit, fits-lt}
-use Rattle.plan.specs.declared.Drawing.{Drawing}
 use Rattle.plan.specs.Drawing.{height, beamAt, columnAt, drawn}
 use Rattle.writer.specs.Blocks.{Laid}
 use Rattle.writer.proofs.Numbers.{falls, next-within, LayerFits, layer-fits, code-fits-4, layer-within}
@@ -14,17 +12,11 @@ use Rattle.writer.proofs.Laid.{laid-none, laid-layer, drawn-place}
 use Rattle.writer.proofs.layers.Statement.{statement}
 use Rattle.writer.proofs.layers.Tie as tie
 
--- the drawing, of the numbers that the loop has
-abbrev held : ℕ → ℕ → ℕ → ℕ → List ℕ → List ℕ → List ℕ → Drawing
-held v pairs rows columns steps co codes =
-    record { v = v; pairs = pairs; rows = rows; columns = columns; steps = steps; co = co; codes = codes }
-
 abbrev Inv-loop : tie.InvT-loop
-Inv-loop out₀ v pairs rows columns steps co codes j₀ at₀ out j at =
-    (j ≤ v) × Laid out₀ 0 (drawn (held v pairs rows columns steps co codes) j) at out
+Inv-loop s out₀ v steps co codes j₀ at₀ out j at = (j ≤ v) × Laid out₀ 0 (drawn s j) at out
 
 abbrev μ-loop : tie.MeasureT-loop
-μ-loop out₀ v pairs rows columns steps co codes j₀ at₀ out j at = v - j
+μ-loop s out₀ v steps co codes j₀ at₀ out j at = v - j
 
 -- where a place of the loop was entered, and where a turn began that has come to its end
 abbrev start-of : tie.At-loop Inv-loop μ-loop → tie.Start Inv-loop μ-loop

@@ -38,18 +38,6 @@ loop-holds : tie.Need-loop-holds Inv-loop μ-loop
 unfolding coRow column product
 loop-holds c = (zero-le, refl, laid-none _ _)
 
-draw-requires : tie.Need-draw-requires Inv-loop μ-loop
-draw-requires c κs =
-    let t = c .before .before .before in
-    let p = t .before .before .before .pre in
-    let co = c .before .before .co-phase .ensures .1 in
-    (p .1, p .2, byte-below _, byte-below _, co, c .before .co-phase2 .ensures .1, room t .first)
-
-put-requires : tie.Need-put-requires Inv-loop μ-loop
-put-requires c κs =
-    let d = c .before .before .before in
-    room (d .before .before .before .before) .second _ (d .draw .kept .0)
-
 -- where a turn began that has come to its end
 abbrev turn-of : tie.After-slice-known3 Inv-loop μ-loop → tie.In-loop Inv-loop μ-loop
 turn-of c = c .before .before .before .before .before .before .before .before .before .before
@@ -72,6 +60,18 @@ loop-again c =
           (d .draw .ensures .1 ∙ ap drawn (d .before .before .co-phase2 .ensures .0)) (put .ensures) (put .kept .0) (s .pre .1)
           (s .pre .3) (room t .second _ (d .draw .kept .0)),
     )
+
+draw-requires : tie.Need-draw-requires Inv-loop μ-loop
+draw-requires c κs =
+    let t = c .before .before .before in
+    let p = t .before .before .before .pre in
+    let co = c .before .before .co-phase .ensures .1 in
+    (p .1, p .2, byte-below _, byte-below _, co, c .before .co-phase2 .ensures .1, room t .first)
+
+put-requires : tie.Need-put-requires Inv-loop μ-loop
+put-requires c κs =
+    let d = c .before .before .before in
+    room (d .before .before .before .before) .second _ (d .draw .kept .0)
 
 returns : tie.Need-returns Inv-loop μ-loop
 returns c =
