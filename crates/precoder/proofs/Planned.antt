@@ -66,7 +66,7 @@ module _ (p : Plan) (s : Drawing) (sound : Sound p) (draws : Draws p s) where
       all-append (h 0 (omega arith)) (multiples-join g f xs (λ j k. h (suc j) (omega arith)))
 
   -- where P divides 16, every phase is a whole 32nd of a turn
-  matrix-coarse : 16 % p .ports ≡ 0 → Multiples thirtySecond (matrix p)
+  pub matrix-coarse : 16 % p .ports ≡ 0 → Multiples thirtySecond (matrix p)
   unfolding matrix columnOf beam
   matrix-coarse d =
       let c = p .block in
