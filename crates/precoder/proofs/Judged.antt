@@ -64,7 +64,8 @@ module _ (r : Report) (mask : List ℕ) (ranks room : ℕ) {c : Judged}
         → Answers number (planned (plan r)) (matrix (plan r)) lent (c .given) left
     phases-answer {lent} l f =
         let is = written.fitting-is (plan r) (c .drawing) sound draws (length lent) (omega (arith, fits)) in
-        answers.answers-accepted number (planned (plan r)) refl (drawingOf r) e z (matrix (plan r)) lent _ refl (rw is at f)
+        answers.answers-accepted number (planned (plan r)) refl (drawingOf r) e z (matrix (plan r)) lent _ refl
+        (rw is at f)
 
     -- and of `weights`
     pub weights-answer : {lent left : List ℤ} (coarse : Bool) → (coarse ≡ true → 16 % c .given .ports ≡ 0)
@@ -74,4 +75,5 @@ module _ (r : Report) (mask : List ℕ) (ranks room : ℕ) {c : Judged}
     weights-answer {lent} coarse d l f =
         let are = written.weights-are (plan r) (c .drawing) sound draws coarse (λ t. rw (accepted .1) at (d t)) (length lent)
         (omega (arith, fits)) in
-        answers.answers-accepted number (planned (plan r)) refl (drawingOf r) e z (weightsOf single r) lent _ refl (rw are at f)
+        answers.answers-accepted number (planned (plan r)) refl (drawingOf r) e z (weightsOf single r) lent _ refl
+        (rw are at f)

@@ -1,5 +1,4 @@
--- Each public function of the crate has one outcome on every input: any two that its contract admits are equal, the
--- record and every entry of the buffer.
+-- Each public function has one outcome on every input, the record and every entry of the buffer.
 use denote.Ref.{now}
 use Rattle.ground.specs.Unique.{UniqueLeft}
 use Rattle.plan.proofs.Answers.{one-answer}

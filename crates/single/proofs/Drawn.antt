@@ -115,7 +115,8 @@ module _ (r : Report) (h : InRange r) (j : ℕ) (k : j < r .v) where
   code-added : map phase (coRow (drawingOf r .co) code (2 * drawingOf r .pairs)) ≡ map phase (addedTo r j)
   unfolding drawingOf
   code-added =
-      either (isHalf r) (λ e. rw e (half-added (fOf r) (tOf r) j (omega (arith, halved r e .0)))) (λ e. rw e (whole-added _))
+      either (isHalf r) (λ e. rw e (half-added (fOf r) (tOf r) j (omega (arith, halved r e .0))))
+      (λ e. rw e (whole-added _))
 
   column-drawn : columnAt (drawingOf r) code ≡ columnOf (plan r) (layerAt (plan r) j)
   unfolding columnAt columnOf

@@ -83,7 +83,8 @@ single-lawful = record {
   beams-read = beams-read;
 }
 
-pub accepted-in-range : (r : Report) (mask : List ℕ) (ranks room : ℕ) → refusal single (asked r mask ranks room) ≡ 0 → InRange r
+pub accepted-in-range : (r : Report) (mask : List ℕ) (ranks room : ℕ) → refusal single (asked r mask ranks room) ≡ 0
+    → InRange r
 unfolding refusal
 accepted-in-range r mask ranks room e =
     let q = asked r mask ranks room in

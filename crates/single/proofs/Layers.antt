@@ -70,8 +70,8 @@ halves r = quarters (fOf r) (tOf r)
 abbrev pub placeAt : Report → ℕ → ℕ
 placeAt r j = cond (isHalf r) 0 (place (bracket (r .v) j .beam))
 
-abbrev pub beamOf : Report → ℕ → Beam
-beamOf r j = getD (beams r) (placeAt r j) (beam 0 0)
+abbrev pub layerBeam : Report → ℕ → Beam
+layerBeam r j = getD (beams r) (placeAt r j) (beam 0 0)
 
 abbrev pub addedTo : Report → ℕ → List ℕ
 addedTo r j = cond (isHalf r) (getD (halves r) j []) (0 ∷ phaseOf (fOf r) (bracket (r .v) j .added) ∷ [])
@@ -79,7 +79,8 @@ addedTo r j = cond (isHalf r) (getD (halves r) j []) (0 ∷ phaseOf (fOf r) (bra
 module _ (r : Report) (h : InRange r) where
   -- a test that passes at every layer of every rank passes at this rank
   pub at-rank : (test : ℕ → ℕ → Bool) → T (every 9 (λ v. every v (test v))) → (j : ℕ) → j < r .v → T (test (r .v) j)
-  at-rank test t = every-at (r .v) (test (r .v)) (every-at 9 (λ v. every v (test v)) t (r .v) (omega (arith, v-few r h)))
+  at-rank test t =
+      every-at (r .v) (test (r .v)) (every-at 9 (λ v. every v (test v)) t (r .v) (omega (arith, v-few r h)))
 
   -- v brackets at rank v
   pub length-rank : length (brackets (r .v)) ≡ r .v
@@ -96,7 +97,7 @@ module _ (r : Report) (h : InRange r) where
       (λ e. rw (e, length-map) length-rank)
 
   module _ (j : ℕ) (k : j < r .v) where
-    pub layer-is : layerAt (plan r) j ≡ withBeam (beamOf r j) (addedTo r j)
+    pub layer-is : layerAt (plan r) j ≡ withBeam (layerBeam r j) (addedTo r j)
     unfolding layers whole quartered quarters
     layer-is =
         either (isHalf r)

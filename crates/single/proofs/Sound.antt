@@ -23,7 +23,8 @@ use Rattle.plan.specs.Plan.{layerAt}
 use Rattle.plan.specs.Sound.{Sound}
 use Rattle.single.specs.Columns.{phaseOf, quarters}
 use Rattle.single.specs.Plan.{fOf, blocks, rows, blockOf, plan}
-use Rattle.single.proofs.Layers.{either, two-eq, halved, even-rows, length-layers, bracket, halves, placeAt, layer-is}
+use Rattle.single.proofs.Layers.{either, two-eq, halved, even-rows, length-layers}
+use Rattle.single.proofs.Layers.{bracket, halves, placeAt, layer-is}
 use Rattle.single.proofs.Told.{added-quarters, told}
 
 -- a turn is a whole number of steps of a beam
@@ -59,14 +60,16 @@ quarters-eighths r (suc (suc (suc (suc j)))) = all-nil
 -- two or four blocks
 pub few-blocks : (r : Report) → (blocks r % 2 ≡ 0) × (2 ≤ blocks r) × (blocks r ≤ 4)
 few-blocks r =
-    cond-both (λ n. (n % 2 ≡ 0) × (2 ≤ n) × (n ≤ 4)) (isHalf r) (refl, omega arith, omega arith) (refl, omega arith, omega arith)
+    cond-both (λ n. (n % 2 ≡ 0) × (2 ≤ n) × (n ≤ 4)) (isHalf r) (refl, omega arith, omega arith)
+    (refl, omega arith, omega arith)
 
 module _ (r : Report) (h : InRange r) where
   -- half-length beams: half of the rows, and as many beams as whole ones
   pub same-beams : blockOf r .n1 * blockOf r .o1 ≡ across (r .n1)
   same-beams =
       let o = o1 (r .n1) in
-      either (isHalf r) (λ e. rw e (sym (mul-assoc (r .n1 / 2) 2 o) ∙ ap (λ (n : ℕ). n * o) (even-rows r h e))) (λ e. rw e)
+      either (isHalf r) (λ e. rw e (sym (mul-assoc (r .n1 / 2) 2 o) ∙ ap (λ (n : ℕ). n * o) (even-rows r h e)))
+      (λ e. rw e)
 
   -- all blocks: an entry for each port
   all-ports : blocks r * (rows r * r .n2) ≡ ports (r .n1) (r .n2)

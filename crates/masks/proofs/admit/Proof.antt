@@ -21,7 +21,8 @@ past-four : (c : tie.Else4) → let a = start c .args in Passed (a .x) (now (a .
 past-four c =
     let e3 = c .before .before in
     let e2 = e3 .before .before in
-    record { not-one = e2 .before .before .if1 .left; not-two = e2 .if2 .left; long = e3 .if3 .left; not-four = c .if4 .left }
+    let e1 = e2 .before .before in
+    record { not-one = e1 .if1 .left; not-two = e2 .if2 .left; long = e3 .if3 .left; not-four = c .if4 .left }
 
 -- past the sixth neither is 5, nor any of the codebook's own: the bits are left, from that of beam i on, and the room
 abbrev Left : tie.Else6 → ℕ → Type 0
@@ -66,8 +67,8 @@ returns-7 c =
 
 returns-8 : tie.Need-returns-8
 returns-8 c =
-    c .short-of .ensures
-    ∙ sym (past-first (c .before .before .before) ∙ rw (none-past _ _ _ _ 0 _ (le-of-suc-le-suc (c .before .if8 .taken))))
+    let one = le-of-suc-le-suc (c .before .if8 .taken) in
+    c .short-of .ensures ∙ sym (past-first (c .before .before .before) ∙ rw (none-past _ _ _ _ 0 _ one))
 
 returns-9 : tie.Need-returns-9
 returns-9 c =

@@ -38,8 +38,8 @@ returns-2 c = sym (past-second (c .before) ∙ none-past _ _ _ _ 1 _ (le-of-eq (
 
 returns-3 : tie.Need-returns-3
 returns-3 c =
-    let e = c .before .before in
-    sym (past-second (e .before) ∙ rw (from-third _ _ _ _ _ (three e), sym (c .before .is-zero2 .ensures) ∙ c .if3 .taken))
+    sym (past-second (c .before .before .before)
+    ∙ rw (from-third _ _ _ _ _ (three (c .before .before)), sym (c .before .is-zero2 .ensures) ∙ c .if3 .taken))
 
 returns-4 : tie.Need-returns-4
 returns-4 c = sym (past-third (c .before) ∙ none-past _ _ _ _ 2 _ (le-of-eq (c .if4 .taken)))

@@ -14,10 +14,9 @@ rem-weights c = ports-some _ _ _ _ (c .before .before .before .judge .ensures) (
 
 returns-2 : tie.Need-returns-2
 returns-2 c =
-    let written = c .before .before in
-    let e = written .before .before .before in
+    let e = c .before .before .before .before .before in
     weights-answer _ _ _ _ (e .before .before .judge .ensures) (e .if1 .left) _ (eqb-true _ 0) refl
-    (written .weights .ensures)
+    (c .before .before .weights .ensures)
 
 pub weights-spec : {M : Type 1} → statement M
 weights-spec = tie.close (tie.spec (λ c κs. search needs) returns rem-weights (λ c κs. search needs) (λ c. search needs) returns-2)

@@ -26,7 +26,8 @@ returns c =
     let b = c .before .before .before in
     let e = b .before .before .before .pre .1 in
     let f = f-said _ e (b .before .before .quarters .ensures) in
-    rw (half-said _ e (b .if1 .taken), b .before .steps-of .ensures, c .before .add .ensures, f, c .before .before .eighths .ensures)
+    let t = c .before .before .eighths .ensures in
+    rw (half-said _ e (b .if1 .taken), b .before .steps-of .ensures, c .before .add .ensures, f, t)
 
 codes-of-requires : tie.Need-codes-of-requires
 codes-of-requires c κs =

@@ -13,4 +13,11 @@ y-small : (s : tie.Start) → s .args .m * s .args .py ≤ 255 * 255
 y-small s = mul-le-mul (s .pre .1) (s .pre .3)
 
 pub step-of-spec : {M : Type 1} → statement M
-step-of-spec = tie.close (tie.spec (λ c. omega (arith, x-small c)) (λ c. omega (arith, y-small c)) (λ c. omega (arith, y-small c)) (λ c. omega (arith, x-small c, y-small c)) (λ c. search needs))
+step-of-spec =
+    tie.close
+    (tie.spec
+    (λ c. omega (arith, x-small c))
+    (λ c. omega (arith, y-small c))
+    (λ c. omega (arith, y-small c))
+    (λ c. omega (arith, x-small c, y-small c))
+    (λ c. search needs))

@@ -12,7 +12,9 @@ returns : tie.Need-returns
 returns c = no-steps _ (c .before .before .pre .0) (c .before .before .pre .1) (c .if1 .taken)
 
 step-of-requires : tie.Need-step-of-requires
-step-of-requires c κs = let s = start (c .before .before .before .before) in small _ (s .pre .0) (s .pre .1) 0 (omega arith)
+step-of-requires c κs =
+    let s = start (c .before .before .before .before) in
+    small _ (s .pre .0) (s .pre .1) 0 (omega arith)
 
 returns-2 : tie.Need-returns-2
 returns-2 c =
@@ -22,13 +24,19 @@ returns-2 c =
     one-step _ h e (c .if2 .taken) (step-is _ h e 0 (omega arith) (c .before .before .step-of .ensures))
 
 step-of-requires-2 : tie.Need-step-of-requires-2
-step-of-requires-2 c κs = let s = start (c .before .before .before .before .before .before .before) in small _ (s .pre .0) (s .pre .1) 1 (omega arith)
+step-of-requires-2 c κs =
+    let s = start (c .before .before .before .before .before .before .before) in
+    small _ (s .pre .0) (s .pre .1) 1 (omega arith)
 
 step-of-requires-3 : tie.Need-step-of-requires-3
-step-of-requires-3 c κs = let s = start (c .before .before .before .before .before .before .before .before) in small _ (s .pre .0) (s .pre .1) 2 (omega arith)
+step-of-requires-3 c κs =
+    let s = start (c .before .before .before .before .before .before .before .before) in
+    small _ (s .pre .0) (s .pre .1) 2 (omega arith)
 
 step-of-requires-4 : tie.Need-step-of-requires-4
-step-of-requires-4 c κs = let s = start (c .before .before .before .before .before .before .before .before .before) in small _ (s .pre .0) (s .pre .1) 3 (omega arith)
+step-of-requires-4 c κs =
+    let s = start (c .before .before .before .before .before .before .before .before .before) in
+    small _ (s .pre .0) (s .pre .1) 3 (omega arith)
 
 returns-3 : tie.Need-returns-3
 returns-3 c =
