@@ -1,12 +1,12 @@
 -- Truth values.
 use mathlib.Core.Path.{_≡_, refl, sym}
-use mathlib.Core.Logic.{_⊎_, inl, inr}
 use mathlib.Core.Bool.{Bool, true, false, cond, _&&_, _||_, and-false, Bool·beq, true≢false, false≢true}
 use lib.Dec.{T}
 
-pub truth : (b : Bool) → (b ≡ true) ⊎ (b ≡ false)
-truth true = inl refl
-truth false = inr refl
+-- what follows from either side of a test
+pub either : {A : Type 0} (b : Bool) → (b ≡ true → A) → (b ≡ false → A) → A
+either true p q = p refl
+either false p q = q refl
 
 pub is-false : (b : Bool) → (b ≡ true → ⊥) → false ≡ b
 is-false true h = absurd (h refl)

@@ -1,14 +1,14 @@
 -- The first of a list of numbers whose test holds; what it means that none does; parts of a list.
 use mathlib.Core.Path.{_≡_, refl, ap, _∙_}
 use mathlib.Core.Logic.{_≢_, inl, inr}
-use mathlib.Core.Bool.{Bool, true, false, cond, _&&_}
+use mathlib.Core.Bool.{Bool, true, false, cond, _&&_, _||_}
 use mathlib.Core.List.{List, [], _∷_, _++_, append-nil}
 use Prim.Native.Nat.{ℕ}
 use native.Mathlib.Omega.{arith}
 use lib.Dec.{T, eqb, ltb, eqb-refl, eqb→eq, ltb→lt}
 use Rattle.ground.specs.Lists.{some, among}
 use Rattle.ground.specs.First.{first, numbered, part, None, FirstOf}
-use Rattle.ground.proofs.Booleans.{truth, or-false}
+use Rattle.ground.proofs.Booleans.{either, or-false}
 use Rattle.ground.proofs.Tests.{and-left, and-right, or-cases, or-left, or-right}
 
 module _ (test : ℕ → Bool) where
@@ -47,19 +47,16 @@ module _ (test : ℕ → Bool) where
   pub first-none : (ks : List ℕ) → T (numbered ks) → first test ks ≡ 0 → None test ks
   unfolding first numbered
   first-none [] t e = none-nil
-  first-none (k ∷ ks) t e = elim (truth (test k)) [
-    | inl f ↦ absurd (let z = ltb→lt 0 k (and-left (ltb 0 k) (numbered ks) t) in omega (arith, rw f at e))
-    | inr f ↦ none-cons k ks f (first-none ks (and-right (ltb 0 k) (numbered ks) t) (rw f at e))
-  ]
+  first-none (k ∷ ks) t e =
+      either (test k)
+      (λ f. absurd (let z = ltb→lt 0 k (and-left (ltb 0 k) (numbered ks) t) in omega (arith, rw f at e)))
+      (λ f. none-cons k ks f (first-none ks (and-right (ltb 0 k) (numbered ks) t) (rw f at e)))
 
   -- one that holds in the first part is the first of all
   pub first-stop : (xs ys : List ℕ) → first test xs ≢ 0 → first test (xs ++ ys) ≡ first test xs
   unfolding first
   first-stop [] ys h = absurd (h refl)
-  first-stop (x ∷ xs) ys h = elim (truth (test x)) [
-    | inl f ↦ rw f
-    | inr f ↦ rw f (first-stop xs ys (rw f at h))
-  ]
+  first-stop (x ∷ xs) ys h = either (test x) (λ f. rw f) (λ f. rw f (first-stop xs ys (rw f at h)))
 
   -- a number whose test does not hold may be put in anywhere
   pub first-insert : (xs ys : List ℕ) (k : ℕ) → test k ≡ false → first test (xs ++ (k ∷ ys)) ≡ first test (xs ++ ys)
@@ -72,13 +69,11 @@ module _ (test : ℕ → Bool) where
       → first test (part keep ks) ≡ first test ks
   unfolding first part
   first-part keep [] e = refl
-  first-part keep (k ∷ ks) e = elim (truth (test k)) [
-    | inl f ↦ rw (f, rw f at e, f)
-    | inr f ↦ elim (truth (keep k)) [
-      | inl g ↦ rw (f, g, f) (first-part keep ks (rw f at e))
-      | inr g ↦ rw (f, g) (first-part keep ks (rw f at e))
-    ]
-  ]
+  first-part keep (k ∷ ks) e =
+      either (test k) (λ f. rw (f, rw f at e, f))
+      (λ f.
+      let rest = first-part keep ks (rw f at e) in
+      either (keep k) (λ g. rw (f, g, f) rest) (λ g. rw (f, g) rest))
 
   -- a number of which FirstOf tells is that number, so there is no other
   pub first-only : (ks : List ℕ) (k : ℕ) → FirstOf test ks k → first test ks ≡ k
@@ -90,18 +85,19 @@ module _ (test : ℕ → Bool) where
   pub first-of : (ks : List ℕ) → first test ks ≢ 0 → FirstOf test ks (first test ks)
   unfolding first
   first-of [] h = absurd (h refl)
-  first-of (k ∷ ks) h = elim (truth (test k)) [
-    | inl f ↦ rw f (record { before = []; after = ks; parts = refl; holds = f; none-before = none-nil })
-    | inr f ↦
-        let p = first-of ks (rw f at h) in
-        rw f (record {
-          before = k ∷ p .before;
-          after = p .after;
-          parts = ap {B = List ℕ} (λ ys. k ∷ ys) (p .parts);
-          holds = p .holds;
-          none-before = none-cons k (p .before) f (p .none-before);
-        })
-  ]
+  first-of (k ∷ ks) h =
+      either (test k)
+      (λ f. rw f (record { before = []; after = ks; parts = refl; holds = f; none-before = none-nil }))
+      (λ f.
+      let p = first-of ks (rw f at h) in
+      rw f
+      (record {
+        before = k ∷ p .before;
+        after = p .after;
+        parts = ap {B = List ℕ} (λ ys. k ∷ ys) (p .parts);
+        holds = p .holds;
+        none-before = none-cons k (p .before) f (p .none-before);
+      }))
 
 -- tests that agree find the same number
 pub first-cong : (test test′ : ℕ → Bool) → ((k : ℕ) → test k ≡ test′ k) → (ks : List ℕ) → first test ks ≡ first test′ ks
@@ -131,10 +127,12 @@ none-within test (j ∷ js) ks t n =
 pub among-part : (keep : ℕ → Bool) (ks : List ℕ) (k : ℕ) → T (among k (part keep ks)) → T (keep k) × T (among k ks)
 unfolding part among
 among-part keep [] k t = absurd t
-among-part keep (x ∷ ks) k t = elim (truth (keep x)) [
-  | inl f ↦ elim (or-cases (eqb k x) (among k (part keep ks)) (rw f at t)) [
-    | inl q ↦ (rw (eqb→eq k x q, f) tt, or-left (eqb k x) (among k ks) q)
-    | inr q ↦ let p = among-part keep ks k q in (p .0, or-right (eqb k x) (among k ks) (p .1))
-  ]
-  | inr f ↦ let p = among-part keep ks k (rw f at t) in (p .0, or-right (eqb k x) (among k ks) (p .1))
-]
+among-part keep (x ∷ ks) k t =
+    let later : T (among k (part keep ks)) → T (keep k) × T (eqb k x || among k ks) =
+    λ q. let p = among-part keep ks k q in (p .0, or-right (eqb k x) (among k ks) (p .1)) in
+    either (keep x)
+    (λ f. elim (or-cases (eqb k x) (among k (part keep ks)) (rw f at t)) [
+      | inl q ↦ (rw (eqb→eq k x q, f) tt, or-left (eqb k x) (among k ks) q)
+      | inr q ↦ later q
+    ])
+    (λ f. later (rw f at t))

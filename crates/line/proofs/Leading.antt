@@ -8,17 +8,12 @@ use native.Mathlib.Omega.{arith}
 use lib.Dec.{eqb, leb, ltb}
 use lib.ListN.{length, drop, getD}
 use borrow.Author.Tests.{leb-true, le-leb, ltb-true, ltb-false}
-use Rattle.ground.proofs.Booleans.{and-true-left, and-true-right}
+use Rattle.ground.proofs.Booleans.{either, and-true-left, and-true-right}
 use Rattle.ground.specs.Cases.{_⇒_∣_}
 use Rattle.ground.specs.Lists.{each}
 use Rattle.text.specs.Words.{nought, ending}
 use Rattle.line.specs.Form.{isDigit, value, isDecimal}
 use Rattle.line.specs.Scan.{lead, next, isEnded}
-
--- what follows from either side of a test
-pub by-test : {A : Type 0} (t : Bool) → (t ≡ true → A) → (t ≡ false → A) → A
-by-test true p q = p refl
-by-test false p q = q refl
 
 -- ---- at a place of a line, by the byte that stands there; past the end stands 0, which is no digit
 
@@ -35,7 +30,7 @@ pub lead-at : (last at : ℕ) (line : List ℕ) → lead (last - at) (drop at li
     ≡ (ltb at last && isDigit (getD line at 0) ⇒ getD line at 0 ∷ lead (last - (at + 1)) (drop (at + 1) line) ∣ [])
 unfolding lead
 lead-at last at line =
-    by-test (ltb at last)
+    either (ltb at last)
     (λ l.
     let more : last - at ≡ suc (last - (at + 1)) = omega (arith, ltb-true at last l) in
     rw (l, more, lead-by-byte, add-one))
@@ -59,20 +54,20 @@ lead-digits : (k : ℕ) (bs : List ℕ) → each isDigit (lead k bs) ≡ true
 unfolding lead each
 lead-digits zero bs = refl
 lead-digits (suc k) [] = refl
-lead-digits (suc k) (b ∷ bs) = by-test (isDigit b) (λ e. rw (e, e) (lead-digits k bs)) (λ e. rw e)
+lead-digits (suc k) (b ∷ bs) = either (isDigit b) (λ e. rw (e, e) (lead-digits k bs)) (λ e. rw e)
 
 lead-few : (k : ℕ) (bs : List ℕ) → length (lead k bs) ≤ k
 unfolding lead
 lead-few zero bs = omega arith
 lead-few (suc k) [] = omega arith
-lead-few (suc k) (b ∷ bs) = by-test (isDigit b) (λ e. rw e (omega (arith, lead-few k bs))) (λ e. rw e (omega arith))
+lead-few (suc k) (b ∷ bs) = either (isDigit b) (λ e. rw e (omega (arith, lead-few k bs))) (λ e. rw e (omega arith))
 
 -- it stands at the front
 pub lead-front : (k : ℕ) (bs : List ℕ) → bs ≡ lead k bs ++ drop (length (lead k bs)) bs
 unfolding lead
 lead-front zero bs = refl
 lead-front (suc k) [] = refl
-lead-front (suc k) (b ∷ bs) = by-test (isDigit b) (λ e. rw e (ap (λ (x : List ℕ). b ∷ x) (lead-front k bs))) (λ e. rw e)
+lead-front (suc k) (b ∷ bs) = either (isDigit b) (λ e. rw e (ap (λ (x : List ℕ). b ∷ x) (lead-front k bs))) (λ e. rw e)
 
 -- digits are found where they are followed by a byte that is none
 pub lead-word : (k : ℕ) (w : List ℕ) (x : ℕ) (bs : List ℕ) → each isDigit w ≡ true → length w ≤ k → isDigit x ≡ false

@@ -9,12 +9,12 @@ use lib.Dec.{leb, ltb}
 use lib.ListN.{length, drop, getD, List·getD-eq-default}
 use lib.Seq.{drop-cons, drop-drop, drop-append-add, getD-append-seam}
 use borrow.Author.Tests.{eq-eqb, eqb-true, leb-true, ltb-true, ltb-false}
-use Rattle.ground.proofs.Booleans.{and-true-left, and-true-right}
+use Rattle.ground.proofs.Booleans.{either, and-true-left, and-true-right}
 use Rattle.ground.specs.Lists.{each}
 use Rattle.text.specs.Words.{ending, joined}
 use Rattle.line.specs.Form.{isDigit, isDecimal}
 use Rattle.line.specs.Scan.{next, isEnded}
-use Rattle.line.proofs.Leading.{by-test, lead-front, lead-word}
+use Rattle.line.proofs.Leading.{lead-front, lead-word}
 
 -- the text after the next word and the byte that follows it
 unfoldable pub rest : List ℕ → List ℕ
@@ -60,7 +60,7 @@ module _ (bs : List ℕ) (left : ℕ) (e : isEnded bs left ≡ true) where
   -- a byte follows the word
   ended-within : length (next bs) < length bs
   ended-within =
-      by-test (ltb (length (next bs)) (length bs)) (λ t. ltb-true _ _ t)
+      either (ltb (length (next bs)) (length bs)) (λ t. ltb-true _ _ t)
       (λ t. absurd (omega (arith, List·getD-eq-default bs 0 (ltb-false _ _ t), ended-byte, ending-kind left)))
 
   -- the text is its next word, the byte that follows it, and the rest

@@ -8,6 +8,7 @@ use borrow.Author.Needs.{needs}
 use lib.Dec.{eqb, leb, leb→le}
 use lib.ListN.{length, take, replicate}
 use borrow.Author.Tests.{ltb-false}
+use Rattle.ground.proofs.Booleans.{either}
 use Rattle.ground.specs.Cases.{_⇒_∣_}
 use Rattle.ground.specs.Lists.{each, among}
 use Rattle.ground.specs.First.{numbered, None}
@@ -33,7 +34,6 @@ use Rattle.line.specs.declared.Answer.{Answer}
 use Rattle.line.specs.declared.Answer.the-variants.{NoRoom}
 use Rattle.line.specs.declared.Printed.{Printed}
 use Rattle.line.specs.Prints.{fullMask, askedOf, refusalOf, recordFor, answerBy, answerOf, textOf, Outcome, Prints}
-use Rattle.line.proofs.Leading.{by-test}
 use Rattle.line.proofs.Answered.{first-passes}
 
 -- ---- the beam mask whose bits are all ones, as a part of 32 bytes
@@ -45,7 +45,7 @@ take-replicate (suc n) (suc m) a h = rw (take-replicate n m a (omega arith))
 
 module _ (n1 n2 : ℕ) {n : ℕ} (e : n ≡ (isSetting n1 n2 ⇒ maskBytes n1 n2 ∣ 0)) where
   pub bytes-few : n ≤ 32
-  bytes-few = rw e (by-test (isSetting n1 n2) (λ s. rw s (mask-few n1 n2 s)) (λ s. rw s (omega arith)))
+  bytes-few = rw e (either (isSetting n1 n2) (λ s. rw s (mask-few n1 n2 s)) (λ s. rw s (omega arith)))
 
   -- so many of 32 bytes are the mask
   pub bytes-full : take n (replicate 32 255) ≡ fullMask n1 n2

@@ -7,6 +7,7 @@ use native.Mathlib.Nat.{mod-eq-of-lt, mul-le-mul-right}
 use native.Mathlib.Omega.{arith}
 use lib.Dec.{T, eqb, eqb→eq}
 use lib.ListN.{getD}
+use Rattle.ground.proofs.Booleans.{either}
 use Rattle.ground.specs.Lists.{every}
 use Rattle.ground.proofs.Tests.{every-at}
 use Rattle.turn.specs.Phase.{turn, half, phase}
@@ -25,7 +26,7 @@ use Rattle.plan.specs.Drawing.{placeOf, takes, coAt, coRow, stepX, stepY, beamA
 use Rattle.single.specs.Columns.{Added, o, ½, f, f+½, byRank, place, phaseOf, quarters}
 use Rattle.single.specs.Plan.{fOf, tOf, blockOf, plan}
 use Rattle.single.specs.Drawing.{codesOf, halfCodes, stepOf, drawingOf}
-use Rattle.single.proofs.Layers.{either, halved, bracket, at-rank, placeAt, addedTo, layer-is, place-within}
+use Rattle.single.proofs.Layers.{halved, bracket, at-rank, placeAt, addedTo, layer-is, place-within}
 use Rattle.single.proofs.Apart.{takesF, takesHalf}
 use Rattle.single.proofs.Sound.{whole-steps, same-beams, few-blocks}
 

@@ -8,6 +8,7 @@ use native.Mathlib.Nat.{div-le-self, zero-mul, mul-le-mul}
 use native.Mathlib.Omega.{arith}
 use lib.ListN.{getD, List·getD-eq-default}
 use borrow.Author.Tests.{not-false}
+use Rattle.ground.proofs.Booleans.{either}
 use Rattle.ground.specs.First.{first}
 use Rattle.turn.specs.Phase.{turn}
 use Rattle.settings.specs.declared.Beam.{Beam}
@@ -21,7 +22,6 @@ use Rattle.report.specs.Beams.{beams, four, said, beamsOf}
 use Rattle.report.proofs.InRange.{in-range-zero, zero-in-range, v-few}
 use Rattle.report.proofs.Reached.{beams-within, four-at, two-ports-beam}
 use Rattle.single.specs.Drawing.{stepOf}
-use Rattle.single.proofs.Layers.{either}
 
 -- the beam at a place, and (0,0) past the last
 abbrev pub at : Report → ℕ → Beam

@@ -11,7 +11,7 @@ use lib.ListN.{getD}
 use borrow.Author.Tests.{eqb-true, eqb-false, not-true}
 use Rattle.ground.specs.Lists.{among}
 use Rattle.ground.specs.First.{numbered, part}
-use Rattle.ground.proofs.Booleans.{cond-both}
+use Rattle.ground.proofs.Booleans.{either, cond-both}
 use Rattle.ground.proofs.First.{first-none}
 use Rattle.ground.proofs.Tests.{or-cases}
 use Rattle.ground.proofs.Lists.{among-at}
@@ -32,7 +32,7 @@ use Rattle.plan.proofs.Calls.{rules-passed}
 use Rattle.single.specs.Plan.{plan}
 use Rattle.single.specs.Masks.{beamBit, twoPortBit, bitsRead}
 use Rattle.single.specs.Single.{order, single}
-use Rattle.single.proofs.Layers.{either, placeAt, layer-is, place-within}
+use Rattle.single.proofs.Layers.{placeAt, layer-is, place-within}
 use Rattle.single.proofs.Sound.{plan-sound}
 
 -- ---- the bits that a report reads

@@ -9,7 +9,7 @@ use lib.ListN.{length, getD, take, length-map}
 use lib.Seq.{length-take-le, getD-take}
 use borrow.Author.Tests.{leb-true}
 use Rattle.ground.specs.Lists.{every, each}
-use Rattle.ground.proofs.Booleans.{and-true-left, and-true-right}
+use Rattle.ground.proofs.Booleans.{either, and-true-left, and-true-right}
 use Rattle.ground.proofs.Tests.{and-left, and-right, or-else, every-at}
 use Rattle.ground.proofs.Lists.{map-at}
 use Rattle.settings.specs.declared.Beam.{Beam}
@@ -28,10 +28,6 @@ use Rattle.single.specs.Plan.{fOf, tOf, withBeam, whole, quartered, laye
 -- ---- tests
 
 -- what follows from a test and from its failing holds
-pub either : {A : Type 0} (b : Bool) → (b ≡ true → A) → (b ≡ false → A) → A
-either true p q = p refl
-either false p q = q refl
-
 pub two-eq : (a b c d : ℕ) → T (eqb a b && eqb c d) → (a ≡ b) × (c ≡ d)
 two-eq a b c d t = (eqb→eq a b (and-left (eqb a b) (eqb c d) t), eqb→eq c d (and-right (eqb a b) (eqb c d) t))
 
