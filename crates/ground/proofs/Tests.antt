@@ -4,7 +4,7 @@ use mathlib.Core.Logic.{_⊎_, inl, inr}
 use mathlib.Core.Bool.{Bool, true, false, _&&_, _||_}
 use Prim.Native.Nat.{ℕ, zero, suc, _<_, _≤_}
 use native.Mathlib.Nat.{not-suc-le-zero, le-of-suc-le-suc, eq-or-lt-of-le}
-use lib.Dec.{T, eqb, eqb-refl, leb, leb→le}
+use lib.Dec.{T, eqb, eqb-refl, eqb→eq, leb, leb→le}
 use Rattle.ground.specs.Lists.{every}
 
 pub and-left : (a b : Bool) → T (a && b) → T a
@@ -31,8 +31,12 @@ pub or-right : (a b : Bool) → T b → T (a || b)
 or-right true b t = tt
 or-right false b t = t
 
+-- two facts of one test
 pub two-le : (a b c d : ℕ) → T (leb a b && leb c d) → (a ≤ b) × (c ≤ d)
 two-le a b c d t = (leb→le a b (and-left (leb a b) (leb c d) t), leb→le c d (and-right (leb a b) (leb c d) t))
+
+pub two-eq : (a b c d : ℕ) → T (eqb a b && eqb c d) → (a ≡ b) × (c ≡ d)
+two-eq a b c d t = (eqb→eq a b (and-left (eqb a b) (eqb c d) t), eqb→eq c d (and-right (eqb a b) (eqb c d) t))
 
 pub eq→eqb : (m n : ℕ) → m ≡ n → T (eqb m n)
 eq→eqb m n e = subst (λ (k : ℕ). T (eqb m k)) e (eqb-refl m)

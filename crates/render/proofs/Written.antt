@@ -2,7 +2,7 @@
 use mathlib.Core.Path.{_≡_, refl, sym, ap, ap₂, _∙_}
 use mathlib.Core.Bool.{Bool, true, false, cond, true≢false}
 use mathlib.Core.List.{List, [], _∷_, _++_}
-use Prim.Native.Nat.{ℕ, zero, suc, _+_, _*_, _<_, _≤_}
+use Prim.Native.Nat.{ℕ, zero, suc, _+_, _<_, _≤_}
 use native.Mathlib.Omega.{arith}
 use lib.Dec.{leb}
 use lib.ListN.{length, take, drop, getD, length-append, List·getD-map}
@@ -14,7 +14,7 @@ use Rattle.ground.specs.Lists.{over}
 use Rattle.turn.specs.Phase.{turn, phase}
 use Rattle.turn.specs.Column.{product, column}
 use Rattle.plan.specs.declared.Drawing.{Drawing}
-use Rattle.plan.specs.Drawing.{height, columnAt, drawn, drawable, layersIn, Written}
+use Rattle.plan.specs.Drawing.{columnAt, drawn, drawable, layersIn, Written}
 use Rattle.writer.proofs.Drawn.{drawable-sizes}
 use Rattle.writer.proofs.Room.{layers-drawn, layers-none, length-layers, resized}
 use Rattle.render.specs.Rendered.{fittingIn}

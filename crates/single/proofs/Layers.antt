@@ -1,5 +1,5 @@
 -- The layers of a report: how many there are, their beams and their co-phases.
-use mathlib.Core.Path.{_≡_, refl, ap, _∙_}
+use mathlib.Core.Path.{_≡_, ap, _∙_}
 use mathlib.Core.Bool.{Bool, true, false, cond, _&&_, _||_}
 use mathlib.Core.List.{List, [], _∷_, map}
 use Prim.Native.Nat.{ℕ, _+_, _-_, _*_, _/_, _<_, _≤_}
@@ -10,7 +10,7 @@ use lib.Seq.{length-take-le, getD-take}
 use borrow.Author.Tests.{leb-true}
 use Rattle.ground.specs.Lists.{every, each}
 use Rattle.ground.proofs.Booleans.{either, and-true-left, and-true-right}
-use Rattle.ground.proofs.Tests.{and-left, and-right, or-else, every-at}
+use Rattle.ground.proofs.Tests.{or-else, every-at}
 use Rattle.ground.proofs.Lists.{map-at}
 use Rattle.settings.specs.declared.Beam.{Beam}
 use Rattle.settings.specs.Settings.{settings, ports}
@@ -24,12 +24,6 @@ use Rattle.report.proofs.Offsets.{counted, offsets-some, length-offsets}
 use Rattle.plan.specs.Plan.{layerAt}
 use Rattle.single.specs.Columns.{B, f, Bracket, _⨾_, byRank, place, phaseOf, quarters}
 use Rattle.single.specs.Plan.{fOf, tOf, withBeam, whole, quartered, layers, plan}
-
--- ---- tests
-
--- what follows from a test and from its failing holds
-pub two-eq : (a b c d : ℕ) → T (eqb a b && eqb c d) → (a ≡ b) × (c ≡ d)
-two-eq a b c d t = (eqb→eq a b (and-left (eqb a b) (eqb c d) t), eqb→eq c d (and-right (eqb a b) (eqb c d) t))
 
 -- ---- half-length beams
 

@@ -9,7 +9,7 @@ use lib.Dec.{eqb, ltb, eqb→eq, ltb→lt}
 use lib.ListN.{length, getD}
 use Rattle.ground.specs.Lists.{each, every, all-nil, all-cons}
 use Rattle.ground.proofs.Booleans.{either, cond-both}
-use Rattle.ground.proofs.Tests.{or-else, every-at}
+use Rattle.ground.proofs.Tests.{or-else, every-at, two-eq}
 use Rattle.turn.specs.Phase.{turn, eighth, thirtySecond}
 use Rattle.turn.specs.Cancel.{Multiples}
 use Rattle.settings.specs.Settings.{settings, isSetting, ports, o1, across, down}
@@ -23,7 +23,7 @@ use Rattle.plan.specs.Plan.{layerAt}
 use Rattle.plan.specs.Sound.{Sound}
 use Rattle.single.specs.Columns.{phaseOf, quarters}
 use Rattle.single.specs.Plan.{fOf, blocks, rows, blockOf, plan}
-use Rattle.single.proofs.Layers.{two-eq, halved, even-rows, length-layers}
+use Rattle.single.proofs.Layers.{halved, even-rows, length-layers}
 use Rattle.single.proofs.Layers.{bracket, halves, placeAt, layer-is}
 use Rattle.single.proofs.Told.{added-quarters, told}
 

@@ -10,7 +10,7 @@ use lib.Dec.{T, eqb, eqb→eq, T-not}
 use lib.ListN.{length, getD, List·getD-map}
 use Rattle.ground.specs.Lists.{each, all-nil, all-cons}
 use Rattle.ground.proofs.Booleans.{either, same-truth}
-use Rattle.ground.proofs.Tests.{and-left, and-right, or-cases, eq→eqb}
+use Rattle.ground.proofs.Tests.{and-left, and-right, or-cases, eq→eqb, two-eq}
 use Rattle.ground.proofs.Lists.{map-at}
 use Rattle.turn.specs.Phase.{turn, quarter, twelfth, difference}
 use Rattle.turn.specs.Column.{Setting}
@@ -28,7 +28,7 @@ use Rattle.plan.specs.Plan.{layerAt}
 use Rattle.plan.specs.Sound.{StepsFrom, Told, by-co-phases, by-beams}
 use Rattle.single.specs.Columns.{Added, o, ½, f, f+½, place, phaseOf, quarters}
 use Rattle.single.specs.Plan.{fOf, tOf, withBeam, whole, blockOf, plan}
-use Rattle.single.proofs.Layers.{two-eq, halved, bracket, halves, layer-is, place-within}
+use Rattle.single.proofs.Layers.{halved, bracket, halves, layer-is, place-within}
 use Rattle.single.proofs.Apart.{halfAgree, marks, marked, marks-even, takesF, second, distinct, layers-apart}
 
 -- ---- half-length beams: four quarters, in which half a turn is added where they are marked

@@ -9,7 +9,7 @@ use Rattle.settings.specs.declared.Beam.{Beam}
 use Rattle.report.specs.declared.Report.{Report}
 use Rattle.report.specs.Beams.{isHalf, beams, four}
 use Rattle.plan.specs.declared.Drawing.{Drawing}
-use Rattle.single.specs.Columns.{Name, Added, o, ½, f, f+½, Bracket, byRank, place}
+use Rattle.single.specs.Columns.{Added, o, ½, f, f+½, Bracket, byRank, place}
 use Rattle.single.specs.Plan.{fOf, tOf, blocks, rows}
 
 -- the code of [x; y]: 512 times the place of the beam, 256 more where f is added, and 2 where half a turn is

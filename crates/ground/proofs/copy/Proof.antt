@@ -17,12 +17,6 @@ Inv-loop from n out₀ i₀ out i = (i ≤ n) × (out ≡ take i (take n from) +
 abbrev μ-loop : tie.MeasureT-loop
 μ-loop from n out₀ i₀ out i = n - i
 
-returns : tie.Need-returns Inv-loop μ-loop
-returns c = record { fits = rw (lt-leb _ _ (c .if1 .taken)); stands = refl }
-
-returns-2 : tie.Need-returns-2 Inv-loop μ-loop
-returns-2 c = record { fits = rw (lt-leb _ _ (c .if2 .taken), and-nothing); stands = refl }
-
 loop-holds : tie.Need-loop-holds Inv-loop μ-loop
 loop-holds c = (omega arith, refl, refl)
 
@@ -35,6 +29,12 @@ loop-again c =
       stored _ _ (a .n) (l .i) 0 (l .inv .1) entry (simp length-take (omega arith)) (omega arith) (omega arith),
       simp length-set (l .inv .2),
     )
+
+returns : tie.Need-returns Inv-loop μ-loop
+returns c = record { fits = rw (lt-leb _ _ (c .if1 .taken)); stands = refl }
+
+returns-2 : tie.Need-returns-2 Inv-loop μ-loop
+returns-2 c = record { fits = rw (lt-leb _ _ (c .if2 .taken), and-nothing); stands = refl }
 
 returns-3 : tie.Need-returns-3 Inv-loop μ-loop
 returns-3 c =

@@ -44,7 +44,11 @@ returns-2 c =
     let needs = c .before .before .before in
     let ports = ports-are _ h (in-range-said _ (needs .before .beams-of .ensures) h) in
     let entries = needs .needs-of .ensures .entries-are (needs .needs-of .ensures .refusal-is ∙ in-range-zero _ h) in
-    rw (sym (number (c .before .before)) ∙ c .before .if1 .left, ports, entries, c .drawing-of .ensures)
+    rw (sym (number (c .before .before)) ∙ c .before .if1 .left)
+    (λ i. record {
+      given = record { refusal = 0; ports = ports i; layers = start (c .before .before) .args .r .v; scale = entries i };
+      drawing = c .drawing-of .ensures i;
+    })
 
 pub judge-spec : {M : Type 1} → statement M
 judge-spec =
