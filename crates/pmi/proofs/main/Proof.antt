@@ -5,7 +5,7 @@ use native.Mathlib.Omega.{arith}
 use lib.ListN.{length}
 use lib.Seq.{length-take-le}
 use borrow.Author.Needs.{needs}
-use Rattle.line.proofs.Texts.{printed-within}
+use Rattle.printer.proofs.Texts.{printed-within}
 use Rattle.pmi.proofs.main.Statement.{statement}
 use Rattle.pmi.proofs.main.Tie as tie
 

@@ -9,11 +9,11 @@ use Rattle.single.specs.Plan.{plan}
 use Rattle.text.specs.Text.{longest}
 use Rattle.text.proofs.Writes.{fits-written}
 use Rattle.text.proofs.Records.{record-few, unreadable-few}
 use Rattle.line.specs.declared.Reading.{Reading}
 use Rattle.line.specs.declared.Reading.the-variants.{Read, Unreadable}
-use Rattle.line.specs.declared.Printed.{Printed}
-use Rattle.line.specs.Prints.{recordFor, answerOf, textOf, Prints}
-use Rattle.line.proofs.Texts.{record-limits}
+use Rattle.printer.specs.declared.Printed.{Printed}
+use Rattle.printer.specs.Prints.{recordFor, answerOf, textOf, Prints}
+use Rattle.printer.proofs.Texts.{record-limits}
 
 pub text-few : (a : Reading) → length (textOf a) ≤ longest
 text-few (Read r) = record-few (recordFor r) (matrix (plan r)) (record-limits r)

@@ -28,13 +28,13 @@ use Rattle.single.proofs.Lawful.{single-lawful}
 use Rattle.text.specs.Text.{recordText, printable, Writes}
 use Rattle.text.proofs.Writes.{by-length, written-within}
 use Rattle.text.proofs.Records.{text-before, text-refused, Limits, within-limits, record-some, unreadable-some}
 use Rattle.line.specs.declared.Reading.{Reading}
 use Rattle.line.specs.declared.Reading.the-variants.{Read, Unreadable}
-use Rattle.line.specs.declared.Answer.{Answer}
-use Rattle.line.specs.declared.Answer.the-variants.{NoRoom}
-use Rattle.line.specs.declared.Printed.{Printed}
-use Rattle.line.specs.Prints.{fullMask, askedOf, refusalOf, recordFor, answerBy, answerOf, textOf, Outcome, Prints}
-use Rattle.line.proofs.Answered.{first-passes}
+use Rattle.printer.specs.declared.Answer.{Answer}
+use Rattle.printer.specs.declared.Answer.the-variants.{NoRoom}
+use Rattle.printer.specs.declared.Printed.{Printed}
+use Rattle.printer.specs.Prints.{fullMask, askedOf, refusalOf, recordFor, answerBy, answerOf, textOf, Outcome, Prints}
+use Rattle.printer.proofs.Answered.{first-passes}
 
 -- ---- the beam mask whose bits are all ones, as a part of 32 bytes
 

@@ -14,12 +14,12 @@ use Rattle.report.specs.declared.Report.{Report}
 use Rattle.single.specs.Plan.{plan}
 use Rattle.single.specs.Single.{single}
 use Rattle.text.specs.Text.{recordText, unreadableText, isWritten, Writes}
 use Rattle.line.specs.declared.Reading.{Reading}
 use Rattle.line.specs.declared.Reading.the-variants.{Read, Unreadable as Unread}
-use Rattle.line.specs.declared.Answer.{Answer}
-use Rattle.line.specs.declared.Answer.the-variants.{Accepted, Refused, Unreadable, NoRoom}
-use Rattle.line.specs.declared.Printed.{Printed}
+use Rattle.printer.specs.declared.Answer.{Answer}
+use Rattle.printer.specs.declared.Answer.the-variants.{Accepted, Refused, Unreadable, NoRoom}
+use Rattle.printer.specs.declared.Printed.{Printed}
 use Rattle.line.specs.Form.{Reads}
 
 -- the beam mask of a setting, all bits ones; a pair that is no setting has none
 unfoldable pub fullMask : ℕ → ℕ → List ℕ

@@ -1,7 +1,7 @@
 -- `given` meets its contract: its test is that of the contract.
 use borrow.Author.Tests.{eq-eqb, ne-eqb}
-use Rattle.line.proofs.given.Statement.{statement}
-use Rattle.line.proofs.given.Tie as tie
+use Rattle.printer.proofs.given.Statement.{statement}
+use Rattle.printer.proofs.given.Tie as tie
 
 returns : tie.Need-returns
 returns c = rw (eq-eqb _ 0 (c .if1 .taken))

@@ -25,7 +25,7 @@ use Rattle.plan.specs.Masks.{bitOf, bit, isZero, barred, rankBarred}
 use Rattle.plan.specs.Answer.{early, test, refusal}
 use Rattle.single.specs.Single.{single}
 use Rattle.single.proofs.Lawful.{single-lawful}
-use Rattle.line.specs.Prints.{fullMask, askedOf, refusalOf}
+use Rattle.printer.specs.Prints.{fullMask, askedOf, refusalOf}
 
 -- ---- the first of a list whose test holds
 

@@ -20,12 +20,12 @@ use Rattle.single.specs.Plan.{whole, layers}
 use Rattle.single.specs.Masks.{bitsRead}
 use Rattle.text.specs.Words.{newline, space, ending, joined, decimal, lineOf, headed}
 use Rattle.text.specs.Text.{okText, linesOf, recordText}
 use Rattle.line.specs.declared.Reading.the-variants.{Read, Unreadable}
 use Rattle.line.specs.Form.{isDigit, valueAfter, isDecimal, Reads}
 use Rattle.line.specs.Scan.{lead, isEnded}
-use Rattle.line.specs.Prints.{fullMask, refusalOf, textOf}
+use Rattle.printer.specs.Prints.{fullMask, refusalOf, textOf}
 use Rattle.line.proofs.Scanned.{rest, words, good}
 use Rattle.line.proofs.Forms.{reads-report, reads-nothing}
 
 -- `2 1 1 2 7 0 1 0` without its newline
 abbrev pub example : List ℕ

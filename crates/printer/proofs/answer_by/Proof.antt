@@ -1,8 +1,8 @@
 -- `answer_by` meets its contract: its test is that of the definition.
 use borrow.Author.Tests.{eq-eqb, ne-eqb}
-use Rattle.line.specs.Prints.{answerBy}
-use Rattle.line.proofs.answer_by.Statement.{statement}
-use Rattle.line.proofs.answer_by.Tie as tie
+use Rattle.printer.specs.Prints.{answerBy}
+use Rattle.printer.proofs.answer_by.Statement.{statement}
+use Rattle.printer.proofs.answer_by.Tie as tie
 
 returns : tie.Need-returns
 unfolding answerBy

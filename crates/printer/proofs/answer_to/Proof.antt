@@ -3,9 +3,9 @@ use mathlib.Core.Path.{refl}
 use Prim.Native.Nat.{_≤_}
 use native.Mathlib.Omega.{arith}
 use lib.ListN.{length-take}
-use Rattle.line.proofs.Texts.{bytes-few, bytes-full, outcome-read}
-use Rattle.line.proofs.answer_to.Statement.{statement}
-use Rattle.line.proofs.answer_to.Tie as tie
+use Rattle.printer.proofs.Texts.{bytes-few, bytes-full, outcome-read}
+use Rattle.printer.proofs.answer_to.Statement.{statement}
+use Rattle.printer.proofs.answer_to.Tie as tie
 
 few : (c : tie.After-mask-bytes) → c .mask-bytes .result ≤ 32
 few c = let r = c .before .before .args .r in bytes-few (r .n1) (r .n2) (c .mask-bytes .ensures)

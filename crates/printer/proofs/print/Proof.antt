@@ -2,10 +2,10 @@
 use mathlib.Core.Path.{refl}
 use native.Mathlib.Omega.{arith}
 use borrow.Author.Needs.{needs}
 use Rattle.line.specs.declared.Reading.the-variants.{Unreadable}
-use Rattle.line.proofs.Texts.{outcome-of}
-use Rattle.line.proofs.print.Statement.{statement}
-use Rattle.line.proofs.print.Tie as tie
+use Rattle.printer.proofs.Texts.{outcome-of}
+use Rattle.printer.proofs.print.Statement.{statement}
+use Rattle.printer.proofs.print.Tie as tie
 
 returns : tie.Need-returns
 returns c =
