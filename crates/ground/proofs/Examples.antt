@@ -14,8 +14,8 @@ use Rattle.ground.proofs.First.{first-none, first-of, first-only}
 
 -- ---- the first number above 5
 
-abbrev numbers : List ℕ
-numbers = 3 ∷ 7 ∷ 9 ∷ []
+abbrev sample : List ℕ
+sample = 3 ∷ 7 ∷ 9 ∷ []
 
 -- of 3 and 5 there is none
 pub none-large : None (ltb 5) (3 ∷ 5 ∷ [])
@@ -23,19 +23,19 @@ unfolding first numbered
 none-large = first-none (ltb 5) (3 ∷ 5 ∷ []) tt refl
 
 -- of 3, 7 and 9 there is one
-pub not-none-large : None (ltb 5) numbers → ⊥
+pub not-none-large : None (ltb 5) sample → ⊥
 unfolding among
 not-none-large n = true≢false (n .at 7 tt)
 
 -- it is 7
-pub seven-first : FirstOf (ltb 5) numbers 7
+pub seven-first : FirstOf (ltb 5) sample 7
 unfolding first
-seven-first = first-of (ltb 5) numbers (λ e. omega arith)
+seven-first = first-of (ltb 5) sample (λ e. omega arith)
 
 -- and no other: not 9, which comes later, nor 3, which is not above 5, nor 8, which is not in the list
-pub only-seven-first : (k : ℕ) → FirstOf (ltb 5) numbers k → 7 ≡ k
+pub only-seven-first : (k : ℕ) → FirstOf (ltb 5) sample k → 7 ≡ k
 unfolding first
-only-seven-first = first-only (ltb 5) numbers
+only-seven-first = first-only (ltb 5) sample
 
 -- ---- a property of every element
 
@@ -44,7 +44,7 @@ pub all-below : All (λ x. x < 5) (3 ∷ 4 ∷ [])
 all-below = all-cons {x = 3} (omega arith) (all-cons {x = 4} (omega arith) all-nil)
 
 -- 3, 7 and 9 are not
-pub not-all-below : All (λ x. x < 5) numbers → ⊥
+pub not-all-below : All (λ x. x < 5) sample → ⊥
 not-all-below (all-cons p (all-cons q a)) = omega arith
 
 -- ---- copies of the first two

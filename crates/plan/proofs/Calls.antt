@@ -13,7 +13,7 @@ use Rattle.ground.specs.First.{part, None}
 use Rattle.ground.proofs.Lists.{map-at, drop-map, take-map}
 use Rattle.ground.proofs.First.{some-none, first-none, among-part}
 use Rattle.weight.specs.declared.Weight.{Weight}
-use Rattle.weight.specs.Table.{none, weight, pairs}
+use Rattle.weight.specs.Table.{noWeight, weight, pairs}
 use Rattle.weight.specs.Products.{power, Within, fullPower, powerBelow, powerAbove, portPower}
 use Rattle.weight.proofs.Pairs.{length-numbers, pairs-numbers}
 use Rattle.weight.proofs.Rules.{power-tight, port-within}
@@ -59,7 +59,7 @@ module _ {R : Type 0} (b : Codebook R) {InRange : R → Type 0} (lawful : Lawful
       (call : Called b r mask ranks room answer lent given left) (e : given .refusal ≡ 0) where
     pub none-of : None (test b (asked r mask ranks room)) (b .order)
     unfolding refusal
-    none-of = first-none _ (b .order) (lawful .numbers) (sym (number-given refl call) ∙ e)
+    none-of = first-none _ (b .order) (lawful .order-numbered) (sym (number-given refl call) ∙ e)
 
     pub in-range : InRange r
     in-range = lawful .in-range r .0 (rules-passed b (asked r mask ranks room) none-of)
@@ -117,13 +117,13 @@ module _ {R : Type 0} (b : Codebook R) {InRange : R → Type 0} (lawful : Lawful
         ∙ layer-before P v j (map weight (matrix (b .plan r))) _ h long-weights
         ∙ rw (drop-map, take-map) (ap (map weight) (matrix-layer (b .plan r) (sound _ call e) j h))
 
-    pub left-weight : (i : ℕ) → i < v * P → getD (pairs left) i none ≡ weight (getD (matrix (b .plan r)) i 0)
+    pub left-weight : (i : ℕ) → i < v * P → getD (pairs left) i noWeight ≡ weight (getD (matrix (b .plan r)) i 0)
     left-weight i h =
-        ap (λ (ws : List Weight). getD ws i none) left-pairs
-        ∙ List·getD-append (map weight (matrix (b .plan r))) _ none i (omega (arith, long-weights))
-        ∙ map-at weight (matrix (b .plan r)) i 0 none (omega (arith, entries _ call e))
+        ap (λ (ws : List Weight). getD ws i noWeight) left-pairs
+        ∙ List·getD-append (map weight (matrix (b .plan r))) _ noWeight i (omega (arith, long-weights))
+        ∙ map-at weight (matrix (b .plan r)) i 0 noWeight (omega (arith, entries _ call e))
 
-    pub powers : (i : ℕ) → i < v * P → Within fullPower powerBelow powerAbove (power (getD (pairs left) i none))
+    pub powers : (i : ℕ) → i < v * P → Within fullPower powerBelow powerAbove (power (getD (pairs left) i noWeight))
     powers i h = rw (left-weight i h) (power-tight (getD (matrix (b .plan r)) i 0))
 
     pub port-power : (q : ℕ) → q < P

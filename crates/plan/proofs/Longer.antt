@@ -24,7 +24,7 @@ module _ {R : Type 0} (b : Codebook R) {InRange : R → Type 0} (lawful : Lawful
       → given .refusal ≡ 0 → (given′ ≡ given) × (left′ ≡ left ++ more)
   longer {answer = answer} {lent = lent} more n l enough h call call′ e =
       let e′ = number-given refl call′
-      ∙ more-room b r (lawful .numbers) mask ranks _ _ h (sym (number-given refl call) ∙ e) in
+      ∙ more-room b r (lawful .order-numbered) mask ranks _ _ h (sym (number-given refl call) ∙ e) in
       let one = as-accepted refl call e n l in
       let other = as-accepted refl call′ e′ n l in (
         other .1 ∙ sym (one .1),

@@ -13,7 +13,7 @@ use lib.IntN.{ℤ, natAbs}
 use lib.ListN.{length, drop, getD, replicate}
 use Rattle.ground.specs.First.{None, FirstOf}
 use Rattle.turn.specs.Exact.{Orthogonal}
-use Rattle.weight.specs.Table.{none, weight, pairs}
+use Rattle.weight.specs.Table.{noWeight, weight, pairs}
 use Rattle.weight.specs.Products.{re, im, power, Within, cross, portPower}
 use Rattle.plan.specs.declared.Record.{Record}
 use Rattle.plan.specs.Plan.{matrix, layerIn}
@@ -77,7 +77,7 @@ module _ {R : Type 0} (b : Codebook R) (InRange : R → Type 0) (order : List �
         × (given ≡ planned (b .plan r))
     -- 2d. Weight i in the buffer is the table's pair at phase i of the matrix, x and then y.
     pub weights-of-phases : {lent left : List ℤ} {given : Record} → WeightsLeft b r mask ranks lent given left
-        → given .refusal ≡ 0 → (i : ℕ) → i < v * P → getD (pairs left) i none ≡ weight (getD W i 0)
+        → given .refusal ≡ 0 → (i : ℕ) → i < v * P → getD (pairs left) i noWeight ≡ weight (getD W i 0)
     -- 3a. Any two different layers of an accepted report's matrix are exactly orthogonal, by the rule of counts.
     pub layers-orthogonal : {A : Type 0} (room : ℕ) {answer lent left : List A} {given : Record}
         → Called b r mask ranks room answer lent given left → given .refusal ≡ 0
@@ -95,11 +95,11 @@ module _ {R : Type 0} (b : Codebook R) (InRange : R → Type 0) (order : List �
     -- 3c. The power of each weight is at most 32,768 from 268,435,456.
     pub powers-near : {lent left : List ℤ} {given : Record} → WeightsLeft b r mask ranks lent given left
         → given .refusal ≡ 0
-        → (i : ℕ) → i < v * P → Within 268435456 32768 32768 (power (getD (pairs left) i none))
+        → (i : ℕ) → i < v * P → Within 268435456 32768 32768 (power (getD (pairs left) i noWeight))
     -- Beyond 3c: it is at most 17,304 below and 15,121 above.
     pub powers-within : {lent left : List ℤ} {given : Record} → WeightsLeft b r mask ranks lent given left
         → given .refusal ≡ 0
-        → (i : ℕ) → i < v * P → Within 268435456 17304 15121 (power (getD (pairs left) i none))
+        → (i : ℕ) → i < v * P → Within 268435456 17304 15121 (power (getD (pairs left) i noWeight))
     -- Beyond: the power of a port, summed over its v layers, is within v times these limits of v times 268,435,456.
     pub port-power : {lent left : List ℤ} {given : Record} → WeightsLeft b r mask ranks lent given left
         → given .refusal ≡ 0

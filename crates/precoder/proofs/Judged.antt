@@ -53,7 +53,7 @@ module _ (r : Report) (mask : List ℕ) (ranks room : ℕ) {c : Judged}
     fits : plan r .v * plan r .ports ≤ room
     unfolding refusal test
     fits =
-        let none = first-none (test single (asked r mask ranks room)) order (single-lawful .numbers) (accepted .0) in
+        let none = first-none (test single (asked r mask ranks room)) order (single-lawful .order-numbered) (accepted .0) in
         ltb-false room (plan r .v * plan r .ports) (none .at 11 (single-lawful .last-two .1))
 
     pub ports-some : 1 ≤ c .given .ports

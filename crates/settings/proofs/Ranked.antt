@@ -50,8 +50,8 @@ module _ (mode : ℕ) where
     | inr l ↦ rw (eq-eqb mode 1 (omega arith))
   ]
 
-pub numbers : (p mode v : ℕ) → (isMode mode && isRank p v) ≡ true → (1 ≤ mode) × (mode ≤ 2) × Rank p v
-numbers p mode v e =
+pub mode-and-rank : (p mode v : ℕ) → (isMode mode && isRank p v) ≡ true → (1 ≤ mode) × (mode ≤ 2) × Rank p v
+mode-and-rank p mode v e =
     let m = mode-of mode (and-true-left (isMode mode) (isRank p v) e) in
     (m .0, m .1, rank-of p v (and-true-right (isMode mode) (isRank p v) e))
 
@@ -66,7 +66,7 @@ ranked-by-ports n1 n2 mode v = rw sizes-ports (go (isSetting n1 n2))
   where
     go : (b : Bool) → (isMode mode && isRank (cond b (ports n1 n2) 0) v) ≡ (b && isMode mode && isRank (ports n1 n2) v)
     go true = refl
-    go false = sym (is-false (isMode mode && isRank 0 v) (λ e. omega (arith, numbers 0 mode v e)))
+    go false = sym (is-false (isMode mode && isRank 0 v) (λ e. omega (arith, mode-and-rank 0 mode v e)))
 
 -- ---- how many values each index has
 

@@ -75,7 +75,7 @@ module _ (r : Report) (h : InRange r) where
 pub single-lawful : Lawful single InRange
 unfolding among numbered part
 single-lawful = record {
-  numbers = tt;
+  order-numbered = tt;
   last-two = (tt, tt);
   in-range = λ r. (in-range r, in-range-none r);
   sound = plan-sound;
@@ -88,4 +88,4 @@ pub accepted-in-range : (r : Report) (mask : List ℕ) (ranks room : ℕ) → re
 unfolding refusal
 accepted-in-range r mask ranks room e =
     let q = asked r mask ranks room in
-    single-lawful .in-range r .0 (rules-passed single q (first-none (test single q) order (single-lawful .numbers) e))
+    single-lawful .in-range r .0 (rules-passed single q (first-none (test single q) order (single-lawful .order-numbered) e))

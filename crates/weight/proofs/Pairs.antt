@@ -11,7 +11,7 @@ use Rattle.turn.specs.Column.{steps}
 use Rattle.turn.proofs.Lists.{length-steps}
 use Rattle.turn.proofs.Entries.{steps-entry}
 use Rattle.weight.specs.declared.Weight.{Weight}
-use Rattle.weight.specs.Table.{firstQuarter, firstHalf, xs, ys, table, none, weight, sampled, numbers, pairs}
+use Rattle.weight.specs.Table.{firstQuarter, firstHalf, xs, ys, table, noWeight, weight, sampled, numbers, pairs}
 
 pub one-weight : {v w : Weight} → v .x ≡ w .x → v .y ≡ w .y → v ≡ w
 one-weight p q = λ i. record { x = p i; y = q i }
@@ -51,14 +51,14 @@ pub length-sampled : (apart : ℕ) → length (numbers (sampled apart)) ≡ 2 * 
 unfolding sampled
 length-sampled apart = simp (length-numbers, length-map, length-steps)
 
-pub map-steps-at : (f : ℕ → Weight) (n s k : ℕ) → k < n → getD (map f (steps n s)) k none ≡ f (k * s)
-map-steps-at f n s k h = map-at f (steps n s) k 0 none (rw length-steps h) ∙ ap f (steps-entry n s k h)
+pub map-steps-at : (f : ℕ → Weight) (n s k : ℕ) → k < n → getD (map f (steps n s)) k noWeight ≡ f (k * s)
+map-steps-at f n s k h = map-at f (steps n s) k 0 noWeight (rw length-steps h) ∙ ap f (steps-entry n s k h)
 
 pub sampled-x : (apart k : ℕ) → k < turn / apart → getD (numbers (sampled apart)) (2 * k) (pos 0) ≡ weight (k * apart) .x
 unfolding sampled
-sampled-x apart k h = numbers-x (sampled apart) none k ∙ ap (λ (w : Weight). w .x) (map-steps-at weight _ apart k h)
+sampled-x apart k h = numbers-x (sampled apart) noWeight k ∙ ap (λ (w : Weight). w .x) (map-steps-at weight _ apart k h)
 
 pub sampled-y : (apart k : ℕ) → k < turn / apart
     → getD (numbers (sampled apart)) (2 * k + 1) (pos 0) ≡ weight (k * apart) .y
 unfolding sampled
-sampled-y apart k h = numbers-y (sampled apart) none k ∙ ap (λ (w : Weight). w .y) (map-steps-at weight _ apart k h)
+sampled-y apart k h = numbers-y (sampled apart) noWeight k ∙ ap (λ (w : Weight). w .y) (map-steps-at weight _ apart k h)

@@ -35,9 +35,9 @@ pair? d e = near? (weight d) (weight e) (weight (d + e))
 row? : ℕ → Bool
 row? d = every quarter (pair? d)
 
-rows : T (every quarter row?)
+all-rows : T (every quarter row?)
 unfolding every row? near? weight table zipWith xs ys firstHalf firstQuarter
-rows = tt
+all-rows = tt
 
 -- ---- what holds of a product holds of it with one factor or both a quarter further
 
@@ -63,7 +63,7 @@ Holds d e = Near productOff (weight d) (weight e) (weight (d + e))
 
 first : (d e : ℕ) → d < quarter → e < quarter → Holds d e
 unfolding Holds row?
-first d e h k = near-yes _ _ _ (every-at quarter (pair? d) (every-at quarter row? rows d h) e k)
+first d e h k = near-yes _ _ _ (every-at quarter (pair? d) (every-at quarter row? all-rows d h) e k)
 
 -- what holds below a quarter, and a quarter further wherever it holds, holds everywhere
 climb : (P : ℕ → Type 0) → ((k : ℕ) → k < quarter → P k) → ((k : ℕ) → P k → P (k + quarter)) → (k : ℕ) → P k

@@ -14,7 +14,7 @@ use Rattle.ground.proofs.Tests.{two-le, every-at}
 use Rattle.turn.specs.Phase.{turn, half, quarter, third, twelfth, phase}
 use Rattle.turn.specs.Column.{steps}
 use Rattle.weight.specs.declared.Weight.{Weight}
-use Rattle.weight.specs.Table.{firstQuarter, firstHalf, xs, ys, table, none, weight}
+use Rattle.weight.specs.Table.{firstQuarter, firstHalf, xs, ys, table, noWeight, weight}
 use Rattle.weight.specs.Products.{turned, power, Within, fullPower, limit, powerBelow, powerAbove, portPower}
 use Rattle.weight.proofs.Pairs.{map-steps-at}
 
@@ -22,7 +22,7 @@ use Rattle.weight.proofs.Pairs.{map-steps-at}
 
 pub weight-phase : (e : ℕ) → weight (phase e) ≡ weight e
 unfolding weight
-weight-phase e = ap (λ (n : ℕ). getD table n none) (mod-mod e turn)
+weight-phase e = ap (λ (n : ℕ). getD table n noWeight) (mod-mod e turn)
 
 pub weight-same : (a b : ℕ) → phase a ≡ phase b → weight a ≡ weight b
 weight-same a b e = sym (weight-phase a) ∙ ap weight e ∙ weight-phase b
@@ -36,9 +36,9 @@ y e = weight e .y
 
 -- two functions of which the first n values, in a list, are the same
 agree : (f g : ℕ → Weight) (n : ℕ) → map f (steps n 1) ≡ map g (steps n 1) → (k : ℕ) → k < n → f k ≡ g k
-agree f g n q k h = sym (at f) ∙ ap (λ ws. getD ws k none) q ∙ at g
+agree f g n q k h = sym (at f) ∙ ap (λ ws. getD ws k noWeight) q ∙ at g
   where
-    at : (u : ℕ → Weight) → getD (map u (steps n 1)) k none ≡ u k
+    at : (u : ℕ → Weight) → getD (map u (steps n 1)) k noWeight ≡ u k
     at u = map-steps-at u n 1 k h ∙ ap u (omega arith)
 
 -- ---- a quarter more turns (x,y) into (-y,x)
@@ -65,7 +65,7 @@ three part e = part (weight e) +ℤ part (weight (e + third)) +ℤ part (weight 
 abbrev sums : ℕ → Weight
 sums k = record { x = three (λ w. w .x) (twelfth * k); y = three (λ w. w .y) (twelfth * k) }
 
-thirds : map sums (steps (turn / twelfth) 1) ≡ map (λ k. none) (steps (turn / twelfth) 1)
+thirds : map sums (steps (turn / twelfth) 1) ≡ map (λ k. noWeight) (steps (turn / twelfth) 1)
 unfolding steps weight table zipWith xs ys firstHalf firstQuarter
 thirds = refl
 
@@ -81,8 +81,8 @@ balanced e h = (
     k : ℕ
     k = phase e / twelfth
 
-    zero : sums k ≡ none
-    zero = agree sums (λ k. none) (turn / twelfth) thirds k (omega arith)
+    zero : sums k ≡ noWeight
+    zero = agree sums (λ k. noWeight) (turn / twelfth) thirds k (omega arith)
 
     at : (part : Weight → ℤ) → three part e ≡ three part (twelfth * k)
     at part =
@@ -127,7 +127,7 @@ power-highest = refl
 
 -- where each of v times p weights has a power within n below and m above c, a port has one within v times these
 pub port-within : (c n m v p q : ℕ) (ws : List Weight) → q < p
-    → ((i : ℕ) → i < v * p → Within c n m (power (getD ws i none)))
+    → ((i : ℕ) → i < v * p → Within c n m (power (getD ws i noWeight)))
     → Within (v * c) (v * n) (v * m) (portPower v p q ws)
 unfolding portPower
 port-within c n m zero p q ws h each = record { low = omega arith; high = omega arith }

@@ -4,7 +4,7 @@ use Prim.Native.Nat.{ℕ, zero, suc, _+_, _*_, _≤_}
 use lib.IntN.{ℤ, pos, negℤ, natAbs, _+ℤ_, _-ℤ_, _*ℤ_}
 use lib.ListN.{getD}
 use Rattle.weight.specs.declared.Weight.{Weight}
-use Rattle.weight.specs.Table.{radius, none}
+use Rattle.weight.specs.Table.{radius, noWeight}
 
 -- a quarter more: (x,y) turned into (-y,x)
 abbrev pub turned : Weight → Weight
@@ -63,4 +63,4 @@ cross part (w ∷ ws) (v ∷ vs) = part w v +ℤ cross part ws vs
 -- the power of port q, summed over the layers: the first v of a list that has p weights to a layer
 unfoldable pub portPower : ℕ → ℕ → ℕ → List Weight → ℕ
 portPower zero p q ws = 0
-portPower (suc v) p q ws = portPower v p q ws + power (getD ws (v * p + q) none)
+portPower (suc v) p q ws = portPower v p q ws + power (getD ws (v * p + q) noWeight)

@@ -37,12 +37,12 @@ unfoldable pub table : List Weight
 table = zipWith (λ (x y : ℤ). record { x = x; y = y }) xs ys
 
 -- past the end of a list
-abbrev pub none : Weight
-none = record { x = pos 0; y = pos 0 }
+abbrev pub noWeight : Weight
+noWeight = record { x = pos 0; y = pos 0 }
 
 -- the weight of a phase
 unfoldable pub weight : ℕ → Weight
-weight e = getD table (phase e) none
+weight e = getD table (phase e) noWeight
 
 -- the weights of the phases 0, apart, 2·apart, .., below a turn
 unfoldable pub sampled : ℕ → List Weight

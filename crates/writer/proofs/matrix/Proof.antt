@@ -34,9 +34,9 @@ record Needed (n m room : ℕ) : Type 0 where
 needed : {n : ℕ} (m room : ℕ) → n ≡ m + 16 → m + 16 ≤ room → Needed n m room
 needed m room e h = record { more = omega arith; end = omega arith; fits = omega arith; past = λ long same. omega arith }
 
-numbers : (c : tie.Else1) → let a = c .before .before .before .args in
+enough : (c : tie.Else1) → let a = c .before .before .before .args in
     Needed (c .before .needed .result) (a .s .v * height (a .s)) (length (now (a .out)))
-numbers c = needed _ _ (passed c .1) (sizes c .fits)
+enough c = needed _ _ (passed c .1) (sizes c .fits)
 
 returns : tie.Need-returns
 unfolding drawable
@@ -47,7 +47,7 @@ returns c =
 put-requires : tie.Need-put-requires
 put-requires c κs =
     let l = c .before .before .before in
-    numbers (l .before .before .before .before .before .before .before) .past _ (l .layers .kept .1 .0)
+    enough (l .before .before .before .before .before .before .before) .past _ (l .layers .kept .1 .0)
 
 returns-2 : tie.Need-returns-2
 returns-2 c =
@@ -55,12 +55,12 @@ returns-2 c =
     let copy = l .before .before .before .copy in
     let e = l .before .before .before .before .before .before .before in
     let a = e .before .before .before .args in
-    let kept = copied-last (now (a .out)) (e .before .needed .result - 16) (copy .ensures) (numbers e .past _ refl) in
+    let kept = copied-last (now (a .out)) (e .before .needed .result - 16) (copy .ensures) (enough e .past _ refl) in
     let long = length-layers (a .s) _ (passed e .0) in
     record {
-      many = numbers e .end ∙ sym long;
+      many = enough e .end ∙ sym long;
       stands = put-back (now (a .out)) (l .layers .last .1 .0) (drawn (a .s) (a .s .v)) (a .s .v * height (a .s))
-          (l .layers .ensures) (numbers e .end) kept (c .before .before .put .ensures)
+          (l .layers .ensures) (enough e .end) kept (c .before .before .put .ensures)
           ∙ ap₂ {C = List ℕ} (λ xs k. xs ++ drop k (now (a .out))) (sym (layers-drawn (a .s) _ (passed e .0))) (sym long);
     }
 
@@ -70,9 +70,9 @@ matrix-spec =
     (tie.spec
     (λ c κs. tt)
     returns
-    (λ c. numbers c .more)
-    (λ c. numbers c .fits)
-    (λ c. numbers (c .before) .fits)
+    (λ c. enough c .more)
+    (λ c. enough c .fits)
+    (λ c. enough (c .before) .fits)
     (λ c. search needs)
     (λ c. search needs)
     (λ c κs. tt)

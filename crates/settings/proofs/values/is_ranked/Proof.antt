@@ -5,14 +5,14 @@ use Prim.Native.Nat.{_≤_}
 use native.Mathlib.Omega.{arith}
 use Rattle.ground.proofs.Booleans.{is-false}
 use Rattle.settings.specs.Ranges.{isMode, isRank}
-use Rattle.settings.proofs.Ranked.{Rank, numbers, of-mode, of-rank}
+use Rattle.settings.proofs.Ranked.{Rank, mode-and-rank, of-mode, of-rank}
 use Rattle.settings.proofs.values.is_ranked.Statement.{statement}
 use Rattle.settings.proofs.values.is_ranked.Tie as tie
 
 away : (s : tie.Start)
     → let a = s .args in
     ((1 ≤ a .mode) × (a .mode ≤ 2) × Rank (a .p) (a .v) → ⊥) → false ≡ (isMode (a .mode) && isRank (a .p) (a .v))
-away s out = is-false _ (λ e. out (numbers (s .args .p) (s .args .mode) (s .args .v) e))
+away s out = is-false _ (λ e. out (mode-and-rank (s .args .p) (s .args .mode) (s .args .v) e))
 
 returns : tie.Need-returns
 returns c = away (c .before) (λ n. omega arith)

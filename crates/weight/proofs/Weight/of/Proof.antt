@@ -10,7 +10,7 @@ use mir.Syntax.{w16}
 use mir.Val.{hbits, toZ, ofZ}
 use mir.Facts.{toZ-ofZ}
 use borrow.Author.Needs.{needs}
-use Rattle.weight.specs.Table.{firstQuarter, firstHalf, xs, ys, table, none, weight, numbers}
+use Rattle.weight.specs.Table.{firstQuarter, firstHalf, xs, ys, table, noWeight, weight, numbers}
 use Rattle.weight.proofs.Pairs.{one-weight, numbers-x, numbers-y}
 use Rattle.weight.proofs.Weight.of.Statement.{statement}
 use Rattle.weight.proofs.Weight.of.Tie as tie
@@ -25,8 +25,8 @@ returns c =
     let i : ℕ = c .before .before .before .of .result .parts in
     let stored-x : mag (getD (numbers table) (2 * i) (pos 0)) < 2 ^ hbits w16 = c .before .t9 .given in
     let stored-y : mag (getD (numbers table) (2 * i + 1) (pos 0)) < 2 ^ hbits w16 = c .t15 .given in
-    one-weight (local stored-x ∙ numbers-x table none i) (local stored-y ∙ numbers-y table none i)
-    ∙ ap (λ (n : ℕ). getD table n none) (c .before .before .before .of .ensures)
+    one-weight (local stored-x ∙ numbers-x table noWeight i) (local stored-y ∙ numbers-y table noWeight i)
+    ∙ ap (λ (n : ℕ). getD table n noWeight) (c .before .before .before .of .ensures)
 
 pub of-spec : {M : Type 1} → statement M
 of-spec =

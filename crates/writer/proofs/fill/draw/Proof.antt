@@ -27,8 +27,8 @@ abbrev μ-loop : tie.MeasureT-loop
 μ-loop out₀ at w x y c d n k second₀ i₀ out second i = 16 - i
 
 -- the numbers of a turn
-numbers : (c : tie.In-loop Inv-loop μ-loop) → let a = c .before .before .args in Bounds (a .w) (c .before .loop .i) (a .x) (a .y)
-numbers c =
+bounded : (c : tie.In-loop Inv-loop μ-loop) → let a = c .before .before .args in Bounds (a .w) (c .before .loop .i) (a .x) (a .y)
+bounded c =
     let p = c .before .before .pre in
     bounds _ _ (p .0) (p .1) (c .loop-test .taken) _ _ (p .2) (p .3)
 
@@ -70,17 +70,17 @@ draw-spec =
     (λ c. c .pre .0)
     loop-holds
     (λ c. fits-lt (c .loop-test .taken) (fits-lit tt))
-    (λ c. numbers c .product)
-    (λ c. numbers c .front)
-    (λ c. numbers c .within)
-    (λ c. numbers c .across)
-    (λ c. numbers c .down)
-    (λ c. numbers c .both)
-    (λ c. numbers c .sum _ (c .before .before .pre .4))
+    (λ c. bounded c .product)
+    (λ c. bounded c .front)
+    (λ c. bounded c .within)
+    (λ c. bounded c .across)
+    (λ c. bounded c .down)
+    (λ c. bounded c .both)
+    (λ c. bounded c .sum _ (c .before .before .pre .4))
     (λ c. fits-lt (mod-lt _ (lit< tt)) (fits-lit tt))
     (λ c. sixteen-fits _ _ _ (c .loop-test .taken) (c .before .before .pre .6) (c .before .before .good .0 .0))
     (λ c. sixteen-within _ _ _ (c .loop-test .taken) (c .before .before .pre .6) _ (c .before .loop .inv .2))
-    (λ c. numbers c .sum _ (c .before .before .pre .5))
+    (λ c. bounded c .sum _ (c .before .before .pre .5))
     (λ c. fits-lt (mod-lt _ (lit< tt)) (fits-lit tt))
     (λ c. c .loop-test .taken)
     (λ c. fits-below tt (next-within 16 _ (c .loop-test .taken)))
