@@ -39,7 +39,7 @@ pub extern "C" fn aspenflick_phases(
     r: report::Report,
     beams: &[u8],
     ranks: u8,
-    out: &mut [u8],
+    out: &mut [turn::Part],
 ) -> plan::Record
     ensures { λ a. ⌜ PhasesLeft single r (now (beams .entry)) ranks (now (out .entry)) a (now (out .exit)) ⌝ }
 {

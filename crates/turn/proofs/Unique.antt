@@ -5,7 +5,6 @@ use Rattle.ground.specs.Unique.{Unique}
 use Rattle.turn.specs.declared.Phase.{Phase}
 use Rattle.turn.proofs.Phase.of.Reads as of
 use Rattle.turn.proofs.Phase.add.Reads as add
-use Rattle.turn.proofs.Phase.opposite.Reads as opposite
 use Rattle.turn.proofs.Phase.quarters.Reads as quarters
 use Rattle.turn.proofs.Phase.eighths.Reads as eighths
 
@@ -17,9 +16,6 @@ of-unique k a r r′ e e′ = one-phase
 
 pub add-unique : Unique add.Learnt
 add-unique k a r r′ e e′ = one-phase
-
-pub opposite-unique : Unique opposite.Learnt
-opposite-unique k a r r′ e e′ = one-phase
 
 pub quarters-unique : Unique quarters.Learnt
 quarters-unique k a r r′ e e′ = one-phase

@@ -1,7 +1,7 @@
 // Phases, counted in parts of a turn and always reduced modulo a turn.
 ghost use mathlib.Core.Path.{_≡_};
 ghost use Prim.Native.Nat.{_+_, _*_};
-ghost use Rattle.turn.specs.Phase.{half, quarter, eighth, phase};
+ghost use Rattle.turn.specs.Phase.{quarter, eighth, phase};
 
 // A number of parts of a turn. Another resolution may need more bits, and nothing else here.
 pub type Part = u8;
@@ -22,10 +22,8 @@ pub struct Phase {
 }
 
 impl Phase {
-    // Of 192 parts, a quarter has 48, a half 96 and an eighth 24.
+    // Of 192 parts, a quarter has 48 and an eighth 24.
     pub const QUARTER: Phase = Phase { parts: TURN / 4 };
-
-    pub const HALF: Phase = Phase { parts: TURN / 2 };
 
     pub const EIGHTH: Phase = Phase { parts: TURN / 8 };
 
@@ -38,7 +36,7 @@ impl Phase {
         }
     }
 
-    // The sum of two phases, without a wider number and without a division: a loop of these is one of vectors.
+    // The sum of two phases, without a wider number.
     pub fn add(self, other: Phase) -> Phase
         ensures { λ r. ⌜ r .parts ≡ phase (self .parts + other .parts) ⌝ }
     {
@@ -49,13 +47,6 @@ impl Phase {
             return Phase { parts: x + y };
         }
         Phase { parts: x - rest }
-    }
-
-    // The phase half a turn on.
-    pub fn opposite(self) -> Phase
-        ensures { λ r. ⌜ r .parts ≡ phase (self .parts + half) ⌝ }
-    {
-        self.add(Phase::HALF)
     }
 
     // f(n): n quarters of a turn.

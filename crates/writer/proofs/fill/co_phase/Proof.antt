@@ -42,6 +42,6 @@ co-phase-spec =
     (λ c. fits-below tt (taken c))
     (λ c. fits-lt (c .pre) (fits-lit tt))
     (λ c. le-trans (c .pre) (lit≤ tt))
-    (λ c. fits-below tt (bit-of _ half 96 (lit≤ tt)))
+    (λ c. fits-below tt (bit-of _ half half (lit≤ tt)))
     (λ c. fits-below tt (sum-small _ _ (taken c)))
     returns)
