@@ -3,31 +3,36 @@
 // A call answers any numbers, masks and lengths. It allocates nothing and keeps no state, so several threads may call at
 // once, each with an `out` of its own. A struct goes by value. A slice is a pointer to entries and then their number: the
 // pointer must not be null and must be aligned for them, also where there are none, and `out` must not overlap `beams`.
-// Nothing else of the caller's is read or written.
+// Nothing else of the caller's is read or written. What an answer depends on is the report, both masks, the length of `out`,
+// which function was called, and the version of the library: whoever keeps a log keeps these.
 //
 // The settings (n1,n2) are (1,1), called two ports, (2,1), (2,2), (4,1), (3,2), (6,1), (4,2), (8,1), (4,3), (6,2), (12,1),
-// (4,4), (8,2) and (16,1). P is the number of ports, 2*n1*n2.
+// (4,4), (8,2) and (16,1). P is the number of ports, 2*n1*n2. M stands for the beams of the second direction: 1 if n2 = 1
+// and 4*n2 otherwise.
+//
+// How many values each index has, the first of them 0. An index with one value is 0: the rank or the setting has no use
+// for it.
+//
+//                                 i11       i12       i13       i2
+//     two ports     v = 1         1         1         1         4
+//                   v = 2         1         1         1         2
+//     mode 1        v = 1         4*n1      M         1         4
+//                   v = 2         4*n1      M         4 (a)     2
+//     mode 2        v = 1         2*n1      M/2 (b)   1         16
+//                   v = 2         2*n1      M/2 (b)   4 (a)     8
+//     either mode   v = 3, 4      4*n1      M         (c)       2      P below 16
+//                   v = 3, 4      2*n1      M         4         2      P of 16 or more
+//                   v = 5, 6      4*n1      M         1         2
+//                   v = 7, 8      4*n1 (d)  M (e)     1         2
+//
+//     (a) 2 at (2,1)   (b) 1 if n2 = 1   (c) 1 at (2,1), 3 at (4,1) and (2,2), 4 at (6,1) and (3,2)   (d) 8 at (4,1)
+//     (e) 4 at (3,2), (4,2), (6,2) and (8,2)
 //
 // Bit k of a mask is bit k mod 8, from the lowest, of byte k / 8. A zero bit bars. `ranks` has bit v-1 for v layers.
-// `beams` has 4*n1*M bits, bit l*M + m for the beam (l,m), where M is 1 if n2 = 1 and 4*n2 otherwise; three and four layers
-// of 16 ports or more read bit 2*i11*M + i12. Two ports have one byte: bits 0 to 3 for i2 with one layer, bits 4 and 5 for
-// i2 with two.
-//
-// The first of these refusals that applies is given; the record's other numbers are then 0 and `out` stays as lent.
-//
-//      1   (n1,n2) is not a setting
-//      2   mode is neither 1 nor 2
-//      3   `beams` has not exactly the bytes needed
-//      4   v is 0, above 8 or above P
-//      5   bit v-1 of `ranks` is zero
-//      6   i11 is out of range
-//      7   i12 is out of range
-//      8   i13 is out of range
-//      9   i2 is out of range
-//     10   a beam that the precoder uses is barred
-//     11   `out` is too short: v*P bytes are needed, or 2*v*P numbers for weights
-//
-// An index that the rank or the setting has no use for must be 0: its range is 0 alone.
+// `beams` has 4*n1*M bits, bit l*M + m for the beam (l,m), l modulo 4*n1 and m modulo M. Two ports have one byte: bits 0
+// to 3 for i2 with one layer, bits 4 and 5 for i2 with two. Three and four layers of 16 ports or more have half-length
+// beams, for which one bit is read, that of (2*i11, i12). The standard ties such a beam to two bits more, those of
+// (2*i11 - 1, i12) and (2*i11 + 1, i12), which are not read: a report that these alone would bar is accepted.
 //
 // Made from the proved crates by tools/header; not edited by hand.
 #ifndef ASPENFLICK_H
@@ -35,6 +40,42 @@
 
 #include <stddef.h>
 #include <stdint.h>
+
+// The version of the library. A struct or a parameter that changes makes the first number another, and every function is
+// linked by a name that ends with it: a program that was compiled with a header of another major number does not link.
+#define ASPENFLICK_VERSION_MAJOR 1
+#define ASPENFLICK_VERSION_MINOR 0
+#define ASPENFLICK_VERSION_PATCH 0
+
+// The largest sizes: ports, layers, entries of `out` for phases and for weights, bytes of `beams`.
+#define ASPENFLICK_MOST_PORTS 32
+#define ASPENFLICK_MOST_LAYERS 8
+#define ASPENFLICK_MOST_PHASES 256
+#define ASPENFLICK_MOST_WEIGHTS 512
+#define ASPENFLICK_MOST_MASK_BYTES 32
+
+// The refusals. The first of them that applies is given; the record's other numbers are then 0 and `out` stays as lent.
+#define ASPENFLICK_ACCEPTED 0         // none applies
+#define ASPENFLICK_NO_SETTING 1       // (n1,n2) is not a setting
+#define ASPENFLICK_NO_MODE 2          // mode is neither 1 nor 2
+#define ASPENFLICK_MASK_LENGTH 3      // `beams` has not exactly the bytes needed
+#define ASPENFLICK_NO_RANK 4          // v is 0, above 8 or above P
+#define ASPENFLICK_RANK_BARRED 5      // bit v-1 of `ranks` is zero
+#define ASPENFLICK_I11_RANGE 6        // i11 is out of range
+#define ASPENFLICK_I12_RANGE 7        // i12 is out of range
+#define ASPENFLICK_I13_RANGE 8        // i13 is out of range
+#define ASPENFLICK_I2_RANGE 9         // i2 is out of range
+#define ASPENFLICK_BEAM_BARRED 10     // a bit of `beams` that the report reads is zero
+#define ASPENFLICK_NO_ROOM 11         // `out` is too short: v*P bytes are needed, or 2*v*P numbers for weights
+
+// What aspenflick_version gives where the library has the version of this header.
+#define ASPENFLICK_VERSION (10000 * ASPENFLICK_VERSION_MAJOR + 100 * ASPENFLICK_VERSION_MINOR + ASPENFLICK_VERSION_PATCH)
+
+// The names by which the functions are linked.
+#define aspenflick_version aspenflick_version_1
+#define aspenflick_mask_bytes aspenflick_mask_bytes_1
+#define aspenflick_phases aspenflick_phases_1
+#define aspenflick_weights aspenflick_weights_1
 
 #ifdef __cplusplus
 extern "C" {
@@ -46,6 +87,12 @@ typedef struct { uint32_t n1, n2, mode, v, i11, i12, i13, i2; } aspenflick_repor
 // What a call answers: the number of the refusal and zeros, or 0, the ports P, the layers v and the scale v*P. A true
 // precoder is the entries divided by the square root of the scale.
 typedef struct { uint32_t refusal, ports, layers, scale; } aspenflick_record;
+
+// The version of the library that is linked: 10000*major + 100*minor + patch, as in ASPENFLICK_VERSION.
+uint32_t aspenflick_version(void);
+
+// How many bytes the beam mask of a setting has; 0 for a pair that is no setting.
+uint32_t aspenflick_mask_bytes(uint32_t n1, uint32_t n2);
 
 // Writes the phases of a report's precoder, each 0 to 191 in 1/192 turns: layer after layer, each of P entries, the first
 // polarisation first. Entries past the v*P of the answer stay as lent. (2,1) with mode 1, v = 1, i11 = 1, i2 = 1 and the

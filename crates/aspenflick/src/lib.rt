@@ -1,0 +1,144 @@
+// Aspenflick for C: the precoder of a 5G NR Type I single-panel PMI report (TS 38.214, 5.2.2.2.1), or its refusal.
+//
+// A call answers any numbers, masks and lengths. It allocates nothing and keeps no state, so several threads may call at
+// once, each with an `out` of its own. A struct goes by value. A slice is a pointer to entries and then their number: the
+// pointer must not be null and must be aligned for them, also where there are none, and `out` must not overlap `beams`.
+// Nothing else of the caller's is read or written. What an answer depends on is the report, both masks, the length of `out`,
+// which function was called, and the version of the library: whoever keeps a log keeps these.
+//
+// The settings (n1,n2) are (1,1), called two ports, (2,1), (2,2), (4,1), (3,2), (6,1), (4,2), (8,1), (4,3), (6,2), (12,1),
+// (4,4), (8,2) and (16,1). P is the number of ports, 2·n1·n2. M stands for the beams of the second direction: 1 if n2 = 1
+// and 4·n2 otherwise.
+//
+// How many values each index has, the first of them 0. An index with one value is 0: the rank or the setting has no use
+// for it.
+//
+//                                 i11       i12       i13       i2
+//     two ports     v = 1         1         1         1         4
+//                   v = 2         1         1         1         2
+//     mode 1        v = 1         4·n1      M         1         4
+//                   v = 2         4·n1      M         4 (a)     2
+//     mode 2        v = 1         2·n1      M/2 (b)   1         16
+//                   v = 2         2·n1      M/2 (b)   4 (a)     8
+//     either mode   v = 3, 4      4·n1      M         (c)       2      P below 16
+//                   v = 3, 4      2·n1      M         4         2      P of 16 or more
+//                   v = 5, 6      4·n1      M         1         2
+//                   v = 7, 8      4·n1 (d)  M (e)     1         2
+//
+//     (a) 2 at (2,1)   (b) 1 if n2 = 1   (c) 1 at (2,1), 3 at (4,1) and (2,2), 4 at (6,1) and (3,2)   (d) 8 at (4,1)
+//     (e) 4 at (3,2), (4,2), (6,2) and (8,2)
+//
+// Bit k of a mask is bit k mod 8, from the lowest, of byte k / 8. A zero bit bars. `ranks` has bit v-1 for v layers.
+// `beams` has 4·n1·M bits, bit l·M + m for the beam (l,m), l modulo 4·n1 and m modulo M. Two ports have one byte: bits 0
+// to 3 for i2 with one layer, bits 4 and 5 for i2 with two. Three and four layers of 16 ports or more have half-length
+// beams, for which one bit is read, that of (2·i11, i12). The standard ties such a beam to two bits more, those of
+// (2·i11 - 1, i12) and (2·i11 + 1, i12), which are not read: a report that these alone would bar is accepted.
+ghost use mathlib.Core.Path.{_≡_};
+ghost use Rattle.ground.specs.Cases.{_⇒_∣_};
+ghost use Rattle.settings.specs.Settings.{isSetting, maskBytes};
+ghost use Rattle.plan.specs.Answer.{PhasesLeft, WeightsLeft};
+ghost use Rattle.single.specs.Single.{single};
+ghost use Rattle.aspenflick.specs.Version.{version};
+
+// The version of the library. A struct or a parameter that changes makes the first number another, and every function is
+// linked by a name that ends with it: a program that was compiled with a header of another major number does not link.
+pub const VERSION_MAJOR: u32 = 1;
+
+pub const VERSION_MINOR: u32 = 0;
+
+pub const VERSION_PATCH: u32 = 0;
+
+// The largest sizes: ports, layers, entries of `out` for phases and for weights, bytes of `beams`.
+pub const MOST_PORTS: u32 = 32;
+
+pub const MOST_LAYERS: u32 = 8;
+
+pub const MOST_PHASES: u32 = 256;
+
+pub const MOST_WEIGHTS: u32 = 512;
+
+pub const MOST_MASK_BYTES: u32 = 32;
+
+// The refusals. The first of them that applies is given; the record's other numbers are then 0 and `out` stays as lent.
+// none applies
+pub const ACCEPTED: u32 = 0;
+
+// (n1,n2) is not a setting
+pub const NO_SETTING: u32 = 1;
+
+// mode is neither 1 nor 2
+pub const NO_MODE: u32 = 2;
+
+// `beams` has not exactly the bytes needed
+pub const MASK_LENGTH: u32 = 3;
+
+// v is 0, above 8 or above P
+pub const NO_RANK: u32 = 4;
+
+// bit v-1 of `ranks` is zero
+pub const RANK_BARRED: u32 = 5;
+
+// i11 is out of range
+pub const I11_RANGE: u32 = 6;
+
+// i12 is out of range
+pub const I12_RANGE: u32 = 7;
+
+// i13 is out of range
+pub const I13_RANGE: u32 = 8;
+
+// i2 is out of range
+pub const I2_RANGE: u32 = 9;
+
+// a bit of `beams` that the report reads is zero
+pub const BEAM_BARRED: u32 = 10;
+
+// `out` is too short: v·P bytes are needed, or 2·v·P numbers for weights
+pub const NO_ROOM: u32 = 11;
+
+// The version of the library that is linked: 10000·major + 100·minor + patch, as in ASPENFLICK_VERSION.
+#[no_mangle]
+pub extern "C" fn aspenflick_version_1() -> u32
+    ensures { λ n. ⌜ n ≡ version ⌝ }
+{
+    10000 * VERSION_MAJOR + 100 * VERSION_MINOR + VERSION_PATCH
+}
+
+// How many bytes the beam mask of a setting has; 0 for a pair that is no setting.
+#[no_mangle]
+pub extern "C" fn aspenflick_mask_bytes_1(n1: u32, n2: u32) -> u32
+    ensures { λ n. ⌜ n ≡ (isSetting n1 n2 ⇒ maskBytes n1 n2 ∣ 0) ⌝ }
+{
+    settings::mask_bytes(n1, n2)
+}
+
+// Writes the phases of a report's precoder, each 0 to 191 in 1/192 turns: layer after layer, each of P entries, the first
+// polarisation first. Entries past the v·P of the answer stay as lent. (2,1) with mode 1, v = 1, i11 = 1, i2 = 1 and the
+// rest 0 gives 0 24 48 72.
+#[no_mangle]
+pub extern "C" fn aspenflick_phases_1(
+    r: report::Report,
+    beams: &[u8],
+    ranks: u8,
+    out: &mut [turn::Part],
+) -> plan::Record
+    ensures { λ a. ⌜ PhasesLeft single r (now (beams .entry)) ranks (now (out .entry)) a (now (out .exit)) ⌝ }
+{
+    precoder::phases(r, beams, ranks, out)
+}
+
+// Writes the weights of a report's precoder: for each entry that `aspenflick_phases` writes, x and then y, the whole
+// numbers nearest to 16384 times the cosine and the sine of its phase; a true precoder is divided by 16384 too. `out_len`
+// counts 16-bit numbers. Numbers past the 2·v·P of the answer stay as lent. The report above gives 16384 0 11585 11585
+// 0 16384 -11585 11585.
+#[no_mangle]
+pub extern "C" fn aspenflick_weights_1(
+    r: report::Report,
+    beams: &[u8],
+    ranks: u8,
+    out: &mut [i16],
+) -> plan::Record
+    ensures { λ a. ⌜ WeightsLeft single r (now (beams .entry)) ranks (now (out .entry)) a (now (out .exit)) ⌝ }
+{
+    precoder::weights(r, beams, ranks, out)
+}
