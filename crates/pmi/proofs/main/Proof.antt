@@ -9,6 +9,9 @@ use Rattle.printer.proofs.Texts.{printed-within}
 use Rattle.pmi.proofs.main.Statement.{statement}
 use Rattle.pmi.proofs.main.Tie as tie
 
+slice-aggregate-print : tie.Need-slice-aggregate-print
+slice-aggregate-print c = sym (length-take-le _ _ (c .before .before .before .before .read-input .ensures))
+
 -- what is printed lies in its array, which keeps its length
 within : (c : tie.After-print) → c .print .result .length ≤ length (c .print .last .1 .0)
 within c = omega (arith, printed-within (c .print .ensures), c .print .kept .1 .0)
@@ -26,10 +29,14 @@ main-spec =
     (λ c. search needs)
     (λ c κs. search needs)
     (λ c. search needs)
+    (λ c κs. search needs)
     (λ c. search needs)
+    slice-aggregate-print
     (λ c. search needs)
     (λ c κs. search needs)
     array-share-prefix-text
     slice-aggregate-write-all
+    (λ c κs. search needs)
+    (λ c. search needs)
     (λ c κs. search needs)
     (λ c. search needs))
