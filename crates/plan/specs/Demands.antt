@@ -66,7 +66,7 @@ module _ {R : Type 0} (b : Codebook R) (InRange : R → Type 0) (order : List �
     pub bits-read-are-one : {A : Type 0} (room : ℕ) {answer lent left : List A} {given : Record}
         → Called b r mask ranks room answer lent given left → given .refusal ≡ 0
         → map (bit mask) (b .bitsRead r) ≡ replicate (length (b .bitsRead r)) 1
-    -- 2c. Where the mask has a bit for each beam, that of each layer's beam is one: no accepted report has a barred beam.
+    -- 2c. Where the mask has a bit for each beam, that of each layer's beam is one.
     pub layers-not-barred : {A : Type 0} (room : ℕ) {answer lent left : List A} {given : Record}
         → Called b r mask ranks room answer lent given left → given .refusal ≡ 0 → b .beamed r ≡ true
         → map (λ x. bit mask (b .width r * x .l + x .m)) (b .plan r .layers) ≡ replicate v 1
@@ -108,7 +108,8 @@ module _ {R : Type 0} (b : Codebook R) (InRange : R → Type 0) (order : List �
     pub ports-differ : {lent left : List ℤ} {given : Record} → WeightsLeft b r mask ranks lent given left
         → given .refusal ≡ 0 → (q q′ : ℕ) → q < P → q′ < P
         → portPower v P q (pairs left) ≤ portPower v P q′ (pairs left) + v * 32425
-    -- Beyond: both limits of a weight's power occur in the table, so neither can be lowered.
+    -- Beyond: both limits of a weight's power occur in the table, so that neither is lower for the table. (Reports reach only
+    -- phases that are multiples of 3 or of 4 parts, and 14 is none.)
     pub power-limits-occur : (power (weight 14) + 17304 ≡ 268435456) × (power (weight 9) ≡ 268435456 + 15121)
     -- Beyond: a buffer is too short for n weights, as 11 has it, exactly when it has fewer than 2·n numbers.
     pub room-for-weights : (lent : List ℤ) (n : ℕ) → (length lent / 2 < n) ↔ (length lent < 2 * n)

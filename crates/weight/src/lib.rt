@@ -3,7 +3,7 @@ use turn::Phase;
 ghost use mathlib.Core.Path.{_≡_};
 ghost use Rattle.weight.specs.Table.{table, weight, coarse, numbers};
 
-// What one antenna port transmits for one layer: real part x and imaginary part y.
+// The weight of one port in one layer: real part x and imaginary part y.
 pub struct Weight {
     pub x: i16,
     pub y: i16,

@@ -1,0 +1,92 @@
+// Holds what the header names against what the functions answer: the version, the sizes, the mask bytes and the refusals.
+//
+// The last line is `N passed, M failed`; the exit status is 0 only if M is 0.
+// Freestanding: of the C library only printf.
+#include <stdio.h>
+#include "aspenflick.h"
+
+static int passed, failed;
+
+static void check(int holds, const char *what) {
+    if (holds) passed++;
+    else {
+        failed++;
+        printf("FAIL %s\n", what);
+    }
+}
+
+static uint8_t beams[ASPENFLICK_MOST_MASK_BYTES + 1], phases[ASPENFLICK_MOST_PHASES + 1];
+static int16_t weights[ASPENFLICK_MOST_WEIGHTS + 1];
+
+// A report at (4,2) with three layers, where every number has a use, and one change of it for each refusal.
+static const struct {
+    const char *what;
+    uint32_t name;
+    aspenflick_report report;
+    size_t bytes, room;
+    uint8_t ranks;
+} cases[] = {
+    {"ACCEPTED", ASPENFLICK_ACCEPTED, {4, 2, 1, 3, 1, 1, 1, 1}, 16, 48, 255},
+    {"NO_SETTING", ASPENFLICK_NO_SETTING, {4, 5, 1, 3, 1, 1, 1, 1}, 16, 48, 255},
+    {"NO_MODE", ASPENFLICK_NO_MODE, {4, 2, 3, 3, 1, 1, 1, 1}, 16, 48, 255},
+    {"MASK_LENGTH", ASPENFLICK_MASK_LENGTH, {4, 2, 1, 3, 1, 1, 1, 1}, 17, 48, 255},
+    {"NO_RANK", ASPENFLICK_NO_RANK, {4, 2, 1, 9, 1, 1, 1, 1}, 16, 48, 255},
+    {"RANK_BARRED", ASPENFLICK_RANK_BARRED, {4, 2, 1, 3, 1, 1, 1, 1}, 16, 48, 255 - 4},
+    {"I11_RANGE", ASPENFLICK_I11_RANGE, {4, 2, 1, 3, 8, 1, 1, 1}, 16, 48, 255},
+    {"I12_RANGE", ASPENFLICK_I12_RANGE, {4, 2, 1, 3, 1, 8, 1, 1}, 16, 48, 255},
+    {"I13_RANGE", ASPENFLICK_I13_RANGE, {4, 2, 1, 3, 1, 1, 4, 1}, 16, 48, 255},
+    {"I2_RANGE", ASPENFLICK_I2_RANGE, {4, 2, 1, 3, 1, 1, 1, 2}, 16, 48, 255},
+    {"BEAM_BARRED", ASPENFLICK_BEAM_BARRED, {4, 2, 1, 3, 2, 1, 1, 1}, 16, 48, 255},
+    {"NO_ROOM", ASPENFLICK_NO_ROOM, {4, 2, 1, 3, 1, 1, 1, 1}, 16, 47, 255},
+};
+
+static void refusals(void) {
+    beams[4 * 8 / 8] &= (uint8_t)~2;  // bars (4,1): 4 rows of 8 bits, and 1
+    for (size_t k = 0; k < sizeof cases / sizeof cases[0]; k++) {
+        aspenflick_record a = aspenflick_phases(cases[k].report, beams, cases[k].bytes, cases[k].ranks, phases, cases[k].room);
+        aspenflick_record b = aspenflick_weights(cases[k].report, beams, cases[k].bytes, cases[k].ranks, weights, 2 * cases[k].room);
+        check(a.refusal == cases[k].name, cases[k].what);
+        check(b.refusal == cases[k].name, cases[k].what);
+    }
+    beams[4 * 8 / 8] = 255;
+}
+
+// The setting of each pair, the mask bytes that it needs and the largest sizes: a mask of another length is refused.
+static void sizes(void) {
+    uint32_t ports = 0, layers = 0, entries = 0, bytes = 0, settings = 0;
+    for (uint32_t n1 = 0; n1 <= 40; n1++) {
+        for (uint32_t n2 = 0; n2 <= 40; n2++) {
+            uint32_t needed = aspenflick_mask_bytes(n1, n2);
+            if (!needed) continue;
+            settings++;
+            if (needed > bytes) bytes = needed;
+            for (uint32_t v = 1; v <= 40; v++) {
+                aspenflick_report r = {.n1 = n1, .n2 = n2, .mode = 1, .v = v};
+                aspenflick_record a = aspenflick_phases(r, beams, needed, 255, phases, ASPENFLICK_MOST_PHASES);
+                if (a.refusal) continue;
+                check(aspenflick_phases(r, beams, needed - 1, 255, phases, ASPENFLICK_MOST_PHASES).refusal ==
+                      ASPENFLICK_MASK_LENGTH, "a mask of a byte less");
+                check(aspenflick_weights(r, beams, needed, 255, weights, ASPENFLICK_MOST_WEIGHTS).refusal ==
+                      ASPENFLICK_ACCEPTED, "room for weights");
+                if (a.ports > ports) ports = a.ports;
+                if (a.layers > layers) layers = a.layers;
+                if (a.scale > entries) entries = a.scale;
+            }
+        }
+    }
+    check(settings == 14, "fourteen settings");
+    check(ports == ASPENFLICK_MOST_PORTS, "MOST_PORTS");
+    check(layers == ASPENFLICK_MOST_LAYERS, "MOST_LAYERS");
+    check(entries == ASPENFLICK_MOST_PHASES, "MOST_PHASES");
+    check(2 * entries == ASPENFLICK_MOST_WEIGHTS, "MOST_WEIGHTS");
+    check(bytes == ASPENFLICK_MOST_MASK_BYTES, "MOST_MASK_BYTES");
+}
+
+int main(void) {
+    for (size_t k = 0; k < sizeof beams; k++) beams[k] = 255;
+    check(aspenflick_version() == ASPENFLICK_VERSION, "the version of the header and the library");
+    refusals();
+    sizes();
+    printf("%d passed, %d failed\n", passed, failed);
+    return failed != 0;
+}
