@@ -12,6 +12,10 @@ pub is-false : (b : Bool) → (b ≡ true → ⊥) → false ≡ b
 is-false true h = absurd (h refl)
 is-false false h = refl
 
+pub is-true : (b : Bool) → T b → b ≡ true
+is-true true t = refl
+is-true false t = absurd t
+
 pub same-truth : (a b : Bool) → T (Bool·beq a b) → a ≡ b
 same-truth true true t = refl
 same-truth false false t = refl

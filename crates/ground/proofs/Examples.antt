@@ -4,12 +4,14 @@ use mathlib.Core.Bool.{true, false, true≢false}
 use mathlib.Core.List.{List, [], _∷_}
 use Prim.Native.Nat.{ℕ, _<_}
 use native.Mathlib.Omega.{arith}
-use lib.Dec.{ltb}
+use lib.Dec.{eqb, eqb-refl, ltb}
 use lib.ListN.{getD}
-use Rattle.ground.specs.Lists.{among, All, all-nil, all-cons}
+use Rattle.ground.specs.Lists.{numbersFrom, some, among, All, all-nil, all-cons}
+use Rattle.ground.specs.Lists.{Member, member-first, member-further, NoRepeats, once-cons}
 use Rattle.ground.specs.First.{first, numbered, None, FirstOf}
 use Rattle.ground.specs.Unique.{Unique, UniqueLeft}
 use Rattle.ground.specs.Copied.{Copied}
+use Rattle.ground.proofs.Lists.{apart, apart-once}
 use Rattle.ground.proofs.First.{first-none, first-of, first-only}
 
 -- ---- the first number above 5
@@ -46,6 +48,32 @@ all-below = all-cons {x = 3} (omega arith) (all-cons {x = 4} (omega arith) all-n
 -- 3, 7 and 9 are not
 pub not-all-below : All (λ x. x < 5) sample → ⊥
 not-all-below (all-cons p (all-cons q a)) = omega arith
+
+-- ---- elements and repeats
+
+-- 3 to 5 are three numbers
+pub three-numbers : numbersFrom 3 3 ≡ 3 ∷ 4 ∷ 5 ∷ []
+unfolding numbersFrom
+three-numbers = refl
+
+-- 7 is an element of 3, 7 and 9
+pub seven-member : Member 7 sample
+seven-member = member-further (member-first refl)
+
+-- 8 is not
+pub eight-not-member : Member 8 sample → ⊥
+eight-not-member (member-first e) = omega arith
+eight-not-member (member-further (member-first e)) = omega arith
+eight-not-member (member-further (member-further (member-first e))) = omega arith
+
+-- 3, 7 and 9 stand there once
+pub sample-once : NoRepeats sample
+unfolding some apart
+sample-once = apart-once eqb eqb-refl sample tt
+
+-- of 3, 7 and 3 the first stands there twice
+pub three-twice : NoRepeats {A = ℕ} (3 ∷ 7 ∷ 3 ∷ []) → ⊥
+three-twice (once-cons n o) = n (member-further (member-first refl))
 
 -- ---- copies of the first two
 

@@ -2,6 +2,8 @@
 pub mod Booleans
 pub mod Tests
 pub mod Lists
+pub mod Members
+pub mod Sums
 pub mod All
 pub mod First
 pub mod Written

@@ -1,15 +1,16 @@
 -- Lists that are mapped and joined, and elements of them.
-use mathlib.Core.Path.{_≡_, refl, sym, ap, _∙_}
+use mathlib.Core.Path.{_≡_, refl, sym, ap, subst, _∙_}
 use mathlib.Core.Logic.{inl, inr}
-use mathlib.Core.Bool.{Bool}
+use mathlib.Core.Bool.{Bool, true, false, not, _&&_}
 use mathlib.Core.List.{List, [], _∷_, _++_, map, append-nil, append-assoc}
 use Prim.Native.Nat.{ℕ, zero, suc, _+_, _*_, _<_}
 use native.Mathlib.Nat.{zero-mul, not-suc-le-zero, le-of-suc-le-suc}
 use native.Mathlib.Omega.{arith}
-use lib.Dec.{T, eqb, eqb-refl}
+use lib.Dec.{T, T-not, eqb, eqb-refl}
 use lib.ListN.{length, getD, take, drop, replicate, length-append}
 use lib.Seq.{getD-take, getD-drop, take-at, drop-append-add}
-use Rattle.ground.specs.Lists.{join, some, each, among}
+use Rattle.ground.specs.Lists.{join, some, each, among, Member, member-first, member-further}
+use Rattle.ground.specs.Lists.{NoRepeats, once-nil, once-cons}
 use Rattle.ground.proofs.Tests.{and-left, and-right, or-cases, or-left, or-right}
 
 -- ---- lists that are mapped
@@ -54,6 +55,35 @@ at-some P found test carry (x ∷ xs) t e = elim (or-cases (found x) (some found
   | inl q ↦ carry x q (and-left (test x) (each test xs) t)
   | inr q ↦ at-some P found test carry xs (and-right (test x) (each test xs) t) q
 ]
+
+module _ {A : Type 0} where
+  -- an element that passes a test is found by it, and what is found is what was looked for
+  pub some-at : (found : A → Bool) {x : A} {xs : List A} → Member x xs → T (found x) → T (some found xs)
+  unfolding some
+  some-at found {xs = y ∷ ys} (member-first e) t = or-left (found y) (some found ys) (subst (λ (z : A). T (found z)) e t)
+  some-at found {xs = y ∷ ys} (member-further m) t = or-right (found y) (some found ys) (some-at found m t)
+
+  pub member-some : (found : A → Bool) {x : A} → ((y : A) → T (found y) → x ≡ y) → (xs : List A) → T (some found xs)
+      → Member x xs
+  unfolding some
+  member-some found same [] t = absurd t
+  member-some found same (y ∷ ys) t = elim (or-cases (found y) (some found ys) t) [
+    | inl p ↦ member-first (same y p)
+    | inr p ↦ member-further (member-some found same ys p)
+  ]
+
+  -- no element passes the test with one after it
+  unfoldable pub apart : (A → A → Bool) → List A → Bool
+  apart same [] = true
+  apart same (x ∷ xs) = not (some (same x) xs) && apart same xs
+
+  pub apart-once : (same : A → A → Bool) → ((x : A) → T (same x x)) → (xs : List A) → T (apart same xs) → NoRepeats xs
+  unfolding apart
+  apart-once same equal [] t = once-nil
+  apart-once same equal (x ∷ xs) t =
+      once-cons
+      (λ m. T-not (some (same x) xs) (and-left (not (some (same x) xs)) (apart same xs) t) (some-at (same x) m (equal x)))
+      (apart-once same equal xs (and-right (not (some (same x) xs)) (apart same xs) t))
 
 -- ---- lists of w elements, one after the other
 

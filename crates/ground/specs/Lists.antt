@@ -1,7 +1,8 @@
--- Lists joined, tests over lists, and what holds of every element.
+-- Lists joined, lists of numbers, tests over lists, elements and repeats, and what holds of every element.
+use mathlib.Core.Path.{_≡_}
 use mathlib.Core.Bool.{Bool, true, false, _&&_, _||_}
-use mathlib.Core.List.{List, [], _∷_, _++_}
-use Prim.Native.Nat.{ℕ, zero, suc}
+use mathlib.Core.List.{List, [], _∷_, _++_, map}
+use Prim.Native.Nat.{ℕ, zero, suc, _+_}
 use lib.Dec.{eqb}
 use lib.ListN.{length, drop}
 
@@ -10,9 +11,22 @@ unfoldable pub join : {A : Type 0} → List (List A) → List A
 join [] = []
 join (x ∷ xs) = x ++ join xs
 
+-- what f lists for each element, one after the other
+abbrev pub along : {A B : Type 0} → List A → (A → List B) → List B
+along xs f = join (map f xs)
+
 -- a list laid over the front of another
 abbrev pub over : {A : Type 0} → List A → List A → List A
 over xs ys = xs ++ drop (length xs) ys
+
+-- n numbers from k on: k, k + 1, ..
+unfoldable pub numbersFrom : ℕ → ℕ → List ℕ
+numbersFrom k zero = []
+numbersFrom k (suc n) = k ∷ numbersFrom (suc k) n
+
+unfoldable pub sum : List ℕ → ℕ
+sum [] = 0
+sum (x ∷ xs) = x + sum xs
 
 -- some element passes the test
 unfoldable pub some : {A : Type 0} → (A → Bool) → List A → Bool
@@ -38,3 +52,13 @@ among k (x ∷ xs) = eqb k x || among k xs
 pub data All (P : ℕ → Type 0) : List ℕ → Type 0 where
   all-nil : All P []
   all-cons : {x : ℕ} {xs : List ℕ} → P x → All P xs → All P (x ∷ xs)
+
+-- x is an element of a list: the first, or one further on
+pub data Member {A : Type 0} (x : A) : List A → Type 0 where
+  member-first : {y : A} {ys : List A} → x ≡ y → Member x (y ∷ ys)
+  member-further : {y : A} {ys : List A} → Member x ys → Member x (y ∷ ys)
+
+-- no element stands in a list twice: none is an element of the rest
+pub data NoRepeats {A : Type 0} : List A → Type 0 where
+  once-nil : NoRepeats []
+  once-cons : {x : A} {xs : List A} → (Member x xs → ⊥) → NoRepeats xs → NoRepeats (x ∷ xs)

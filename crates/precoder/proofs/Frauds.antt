@@ -9,12 +9,13 @@ use lib.ListN.{length, drop, getD}
 use Rattle.ground.specs.First.{numbered}
 use Rattle.ground.proofs.First.{first-none}
 use Rattle.report.specs.declared.Report.{Report}
+use Rattle.report.specs.Listed.{asks}
 use Rattle.plan.specs.declared.Record.{Record}
 use Rattle.plan.specs.Plan.{matrix}
 use Rattle.plan.specs.Answer.{asked, test, refusal, PhasesLeft}
 use Rattle.single.specs.Plan.{plan}
 use Rattle.single.specs.Single.{single}
-use Rattle.precoder.proofs.Worked.{asks, ones, fresh, defined}
+use Rattle.precoder.proofs.Worked.{ones, fresh, defined}
 use Rattle.precoder.proofs.Demands.{single-demanded}
 
 -- worked report 1, of one layer; the same with i11 = 0; and one of two layers

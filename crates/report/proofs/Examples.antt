@@ -1,21 +1,18 @@
--- A report with the largest indices that are in range, and for each refusal one that is a step out of it.
+-- A report with the largest indices that are in range, and for each refusal one that is a step out of it; and the order of
+-- the list.
 use mathlib.Core.Path.{_≡_, refl, ap}
 use mathlib.Core.List.{List, [], _∷_, map}
 use Prim.Native.Nat.{ℕ}
 use native.Mathlib.Omega.{arith}
-use lib.ListN.{getD}
-use Rattle.ground.specs.Lists.{some}
+use lib.ListN.{getD, take}
+use Rattle.ground.specs.Lists.{join, numbersFrom, some}
 use Rattle.ground.specs.First.{first}
 use Rattle.settings.specs.Settings.{settings, isSetting}
 use Rattle.settings.specs.Ranges.{modeTwo, halfLength, kTwo, kThree, kRows}
 use Rattle.settings.specs.Ranges.{halvesI11, i11Values, halvesI12, i12Values, i13Values, i2Values}
-use Rattle.report.specs.declared.Report.{Report}
 use Rattle.report.specs.Rules.{rule, ownOrder, InRange}
+use Rattle.report.specs.Listed.{asks, reportsOf}
 use Rattle.report.proofs.InRange.{in-range-zero, zero-in-range}
-
-abbrev asks : ℕ → ℕ → ℕ → ℕ → ℕ → ℕ → ℕ → ℕ → Report
-asks n1 n2 mode v i11 i12 i13 i2 =
-    record { n1 = n1; n2 = n2; mode = mode; v = v; i11 = i11; i12 = i12; i13 = i13; i2 = i2 }
 
 refusals : map (λ r. first (rule r) ownOrder) (
     asks 2 1 1 2 7 0 1 1
@@ -40,3 +37,11 @@ last-in-range = zero-in-range (asks 2 1 1 2 7 0 1 1) (ap (λ (ks : List ℕ). ge
 pub next-out-of-range : InRange (asks 2 1 1 2 8 0 1 1) → ⊥
 next-out-of-range h =
     omega (arith, in-range-zero (asks 2 1 1 2 8 0 1 1) h, ap (λ (ks : List ℕ). getD ks 4 0) refusals)
+
+-- (2,1), mode 1, v = 2: i2 is counted up first, then i13, then i11
+first-listed : take 5 (reportsOf 2 1 1 2)
+    ≡ asks 2 1 1 2 0 0 0 0 ∷ asks 2 1 1 2 0 0 0 1 ∷ asks 2 1 1 2 0 0 1 0 ∷ asks 2 1 1 2 0 0 1 1 ∷ asks 2 1 1 2 1 0 0 0 ∷ []
+unfolding
+    join numbersFrom modeTwo halfLength kTwo kThree kRows
+    halvesI11 i11Values halvesI12 i12Values i13Values i2Values reportsOf
+first-listed = refl

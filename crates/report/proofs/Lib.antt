@@ -1,6 +1,7 @@
--- Laws of a report: its refusals, how far its beams stand from B, and where they lie.
+-- Laws of a report: its refusals, how far its beams stand from B, and where they lie; and of the list of all in range.
 pub mod InRange
 pub mod Judged
+pub mod Listed
 pub mod Steps
 pub mod Offsets
 pub mod Reached

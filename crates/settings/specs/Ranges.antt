@@ -5,6 +5,7 @@ use Prim.Native.Nat.{ℕ, _/_}
 use lib.Dec.{eqb, leb, ltb}
 use lib.ListN.{length}
 use Rattle.ground.specs.Cases.{_⇒_∣_}
+use Rattle.ground.specs.Lists.{numbersFrom}
 use Rattle.settings.specs.declared.Beam.{Beam}
 use Rattle.settings.specs.declared.Ranges.{Ranges}
 use Rattle.settings.specs.Settings.{isSetting, ports, twoPorts, across, down, sizesOf}
@@ -18,6 +19,13 @@ isMode mode = eqb mode 1 || eqb mode 2
 -- v layers on P ports: 1 to 8, and at most P
 abbrev pub isRank : ℕ → ℕ → Bool
 isRank p v = not (eqb v 0 || ltb 8 v || ltb p v)
+
+-- all modes, and all ranks on P ports
+unfoldable pub modes : List ℕ
+modes = 1 ∷ 2 ∷ []
+
+unfoldable pub ranksOf : ℕ → List ℕ
+ranksOf p = numbersFrom 1 (ltb p 8 ⇒ p ∣ 8)
 
 -- mode 2 acts on v = 1 and 2 only, and has no effect on two ports
 unfoldable pub modeTwo : ℕ → ℕ → ℕ → Bool
