@@ -28,7 +28,7 @@ From 003:
     8 columns is read as m'''); l and m of 1 to 6 layers in both modes, but for what stands below;
   - the mask bits: how many, and which of them bars which precoder, for two ports and for more. A bit stands for the
     quantity v_{l,m}, so a beam has the bit of the v_{l,m} with the same entries: this is what reduces l and m;
-  - bit v-1 of the rank mask, for four ports and more.
+  - bit v-1 of the rank mask, r_{v-1}, for four ports and more.
 From 000 and 002:
   - l and m of 7 and 8 layers: for N2 > 1 as 002 prints them (003 has an i12 too many, 000 one too few), for N2 = 1 as
     000 does (003 and 002 have a 0 too few);
