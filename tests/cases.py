@@ -1,13 +1,24 @@
 #!/usr/bin/env python3
-"""Tests the program pmi: the stored inputs of tests/cases, and the ways in which input can arrive.
+r"""Tests the program pmi: the stored cases of tests/cases, and the ways in which input can arrive.
 
     cases.py COMMAND..    test; COMMAND starts pmi
     cases.py --write      write tests/cases anew
 
 The last line is `N passed, M failed`; the exit status is 0 only if N is above 0 and M is 0.
 
-NAME.in is what stands on standard input and NAME.out what must come on standard output, to the byte; nothing may come
-on standard error, and the exit status is 0. A name begins with what its case is for:
+A case is stored as a line that has its name and what stands on standard input, and below it the lines that must come on
+standard output, each behind four spaces:
+
+    worked-2-the-example  '2 1 1 2 7 0 1 0\n'
+        ok 4 2 8
+        0 168 0 168
+        0 72 96 168
+    unreadable-257-bytes-the-example-first  '2 1 1 2 7 0 1 0\n' + 'x' * 241
+        unreadable
+
+The input is a Python string in which each character is a byte; a long run in it is one part of it, so many times. Both
+are compared to the byte; nothing may come on standard error, and the exit status is 0. A case stands in the file of its
+kind, with which its name begins:
 
   worked       the reports that 01 works out, with the answers written here
   setting      every setting, mode and rank: all indices at their last values, and indices drawn within their ranges
@@ -21,6 +32,7 @@ What a name promises (ok, refused N, unreadable) is held against the model, whic
 the one of precoder.py, with masks of ones, behind a rule of its own for what is readable.
 """
 
+import ast
 import collections
 import concurrent.futures
 import fcntl
@@ -31,6 +43,7 @@ import re
 import struct
 import subprocess
 import sys
+import tempfile
 import termios
 import time
 from pathlib import Path
@@ -457,20 +470,62 @@ def promise_of(name):
 KINDS = ('worked', 'setting', 'accepted', 'refused', 'unreadable', 'damage')
 
 
+def kind_of(name):
+    return name.split('-')[0]
+
+
 def generated():
-    """The files of the store: their names and what they hold."""
-    files = {}
-    for name, data in inputs().items():
-        files[name + '.in'], files[name + '.out'] = data, answer_of(data).encode()
+    """Every case: its input and its answer, by its name."""
+    return {name: (data, answer_of(data).encode()) for name, data in inputs().items()}
+
+
+# ---- The store -------------------------------------------------------------------------------------------------------
+
+# At most 16 bytes that come 32 times or more, one after the other.
+RUN = re.compile(rb'(.{1,16}?)\1{31,}', re.S)
+# A part of an input as it is written: a Python string, and how many times it comes.
+PART = r"('(?:(?!['\\])[ -~]|\\[tnr'\\]|\\x[0-9a-f]{2})*')(?: \* (\d+))?"
+CASE = re.compile(rf'^(?P<name>\S+)  (?P<input>{PART}(?: \+ {PART})*)\n(?P<answer>(?:    .*\n)+)', re.M)
+
+
+def quoted(data):
+    # With a double quote before it, repr takes single ones whatever follows.
+    return "'" + repr(b'"' + data)[3:]
+
+
+def written(data):
+    """An input as it is written."""
+    run = RUN.search(data)
+    if not run:
+        return quoted(data)
+    before, after = data[:run.start()], data[run.end():]
+    parts = before and quoted(before), f'{quoted(run[1])} * {len(run[0]) // len(run[1])}', after and written(after)
+    return ' + '.join(part for part in parts if part)
+
+
+def files_of(cases):
+    """The files that hold the cases, by their names."""
+    files = dict.fromkeys((f'{kind}.txt' for kind in KINDS), '')
+    for name, (data, answer) in cases.items():
+        lines = answer.decode().splitlines(keepends=True)
+        files[f'{kind_of(name)}.txt'] += f'{name}  {written(data)}\n' + ''.join('    ' + line for line in lines)
     return files
+
+
+def cases_in(text):
+    """The cases that stand in a file, as often as they do: the name, and the input and the answer, of each."""
+    for case in CASE.finditer(text):
+        parts = re.findall(PART, case['input'])
+        data = b''.join(ast.literal_eval('b' + part) * int(times or 1) for part, times in parts)
+        yield case['name'], (data, re.sub('^    ', '', case['answer'], flags=re.M).encode('latin-1'))
 
 
 def write_store():
     STORE.mkdir(exist_ok=True)
     for path in STORE.iterdir():
         path.unlink()
-    for name, data in generated().items():
-        (STORE / name).write_bytes(data)
+    for name, text in files_of(generated()).items():
+        (STORE / name).write_bytes(text.encode('ascii'))
 
 
 # ---- Running the program ---------------------------------------------------------------------------------------------
@@ -501,6 +556,13 @@ class Program:
 
     def from_file(self, path, mode='rb'):
         with open(path, mode) as source:
+            return self.finish(self.start(source))
+
+    def from_file_of(self, data):
+        """Its standard input is a file that holds the data."""
+        with tempfile.TemporaryFile() as source:
+            source.write(data)
+            source.seek(0)
             return self.finish(self.start(source))
 
     def from_command(self, *command):
@@ -573,25 +635,29 @@ class Tests:
         return 0 if self.passed and not self.failed else 1
 
 
-def check_store(tests, stored):
-    """The files are those of the generator, and of every kind there are enough."""
-    files = generated()
-    for what, names in (('missing', files.keys() - stored.keys()), ('stale', stored.keys() - files.keys()),
-                        ('different', {name for name in files.keys() & stored.keys() if files[name] != stored[name]})):
-        tests.check(f'no file of tests/cases is {what}', not names, *sorted(names)[:MOST_SHOWN])
-    for name, data in inputs().items():
-        answer, promise = answer_of(data), promise_of(name)
+def check_store(tests, files, stored):
+    """The cases are the generator's, each once, in its files and its order, and of every kind there are enough."""
+    cases, made, times = dict(stored), generated(), collections.Counter(name for name, _ in stored)
+    texts = files_of(made)
+    for what, names in (('missing', made.keys() - cases.keys()), ('stale', cases.keys() - made.keys()),
+                        ('different', {name for name in made.keys() & cases.keys() if made[name] != cases[name]}),
+                        ('stored twice', {name for name in times if times[name] > 1})):
+        tests.check(f'no case is {what}', not names, *sorted(names)[:MOST_SHOWN])
+    tests.check('tests/cases is as --write writes it', files == texts,
+                *sorted(name for name in files.keys() | texts.keys() if files.get(name) != texts.get(name)))
+    for name, (_, answer) in made.items():
+        answer, promise = answer.decode(), promise_of(name)
         if promise:
             kept = answer == promise if promise.endswith('\n') else answer.startswith(promise)
             tests.check(f'{name} by the model', kept, f'promised  {promise!r}', f'the model {answer!r}')
-    tests.check(f'at least {FEWEST} cases', len(stored) >= 2 * FEWEST, f'{len(stored)} files')
-    counted = collections.Counter(name.split('-')[0] for name in stored if name.endswith('.in'))
+    tests.check(f'at least {FEWEST} cases', len(cases) >= FEWEST, f'{len(cases)} cases')
+    counted = collections.Counter(map(kind_of, cases))
     tests.check('every kind of case', counted.keys() == set(KINDS) and min(counted.values()) >= 10, str(counted))
     print(f'{sum(counted.values())} stored cases: ' + ', '.join(f'{kind} {counted[kind]}' for kind in KINDS))
 
 
 def check_coverage(tests, cases):
-    """What the stored answers speak of, read from the files and not from their names."""
+    """What the stored answers speak of, read from the cases and not from their names."""
     accepted = {(report_of(data) or ())[:4] for data, answer in cases.values() if answer.startswith(b'ok ')}
     every = {(s.N1, s.N2, mode, v) for s in SETTINGS.values() for mode in MODES for v in ranks_of(s)}
     tests.check('a case accepts every setting, mode and rank', accepted == every, str(sorted(every ^ accepted)))
@@ -679,19 +745,17 @@ def main(arguments):
         write_store()
         return 0
     tests, program = Tests(), Program(arguments)
-    stored = {path.name: path.read_bytes() for path in STORE.iterdir()} if STORE.is_dir() else {}
-    check_store(tests, stored)
-    cases = {name[:-3]: (stored[name], stored[name[:-3] + '.out']) for name in sorted(stored)
-             if name.endswith('.in') and name[:-3] + '.out' in stored}
-    check_coverage(tests, cases)
-    runs = [(name, data, answer, lambda name=name: program.from_file(STORE / (name + '.in')))
-            for name, (data, answer) in cases.items()]
+    files = {path.name: path.read_bytes().decode('latin-1') for path in STORE.iterdir()} if STORE.is_dir() else {}
+    stored = [case for name in sorted(files) for case in cases_in(files[name])]
+    check_store(tests, files, stored)
+    check_coverage(tests, dict(stored))
+    runs = [(name, data, answer, lambda data=data: program.from_file_of(data)) for name, (data, answer) in stored]
     runs += [(name, data, answer_of(data).encode(), send) for name, data, send in deliveries(program)]
     drawn = [(f'random input {k}', data, answer_of(data).encode(), lambda data=data: program.from_pipe(data))
              for k, data in enumerate(random_inputs())]
     words = collections.Counter(answer.split()[0].decode() for _, _, answer, _ in drawn)
     tests.check('random inputs of every kind', len(words) == 3 and min(words.values()) >= FEWEST_OF_A_KIND, str(words))
-    print(f'{len(runs) - len(cases)} deliveries, {len(drawn)} random inputs: '
+    print(f'{len(runs) - len(stored)} deliveries, {len(drawn)} random inputs: '
           + ', '.join(f'{word} {count}' for word, count in sorted(words.items())))
     runs += drawn
     not_run = Came(b'', b'', f'not run, as {MOST_HUNG} hung')

@@ -9,32 +9,50 @@ input. The last line is `N passed, M failed`; the exit status is 0 only if N is 
 Where the expected answers come from
 ------------------------------------
 Phases: the matrix W of a report is computed in complex numbers as the standard prints it, with its factor 1/sqrt(v P);
-the phase of an entry is read off its angle in 1/192 turns. No phase is computed in whole numbers. The quantities phi_n,
-theta_p, u_m, v_{l,m}, v~_{l,m} and the tables are those of the draft (003), and for 6 to 8 layers also those of the
-later excerpts (000, 002):
-
-    Table 5.2.2.2.1-1    two ports              -5           1 layer
-                   -2    settings               -6           2 layers
-                   -3    k1, k2 for v=2         -7 and -8    3 and 4 layers, P < 16 and P >= 16
-                   -4    k1, k2 for v=3, 4      -9 to -12    5 to 8 layers
-
+the phase of an entry is read off its angle in 1/192 turns. No phase is computed in whole numbers.
 Weights: the same complex entries without their factor, times 16384, each part taken to the nearest whole number, not by
 way of the phase. No part is near a tie, and for all 192 phases the numbers are those of table.py, in 60 digits. Nothing
 is taken from the library's table.
 
-Refusals, their order, the ranges and the mask bits: 01.
+The rules come from 003, an early draft of 5.2.2.2.1; from 000 and 002, later excerpts that begin with Table -10; and
+from 01, the scope. Which is from where:
 
-Points legible in none of the sources, taken from 01:
-  - the matrix of 7 layers (Table -11 has 8 columns in 000, 7 above 8 in 003, 6 and a third row in 002);
-  - m' of 5 layers for N2 > 1 (the subscripts of W(5) in Table -9 lack one of l, l', l'', m, m', m'');
-  - l', and with it m', of mode 2 with 2 layers (Table -6 prints 2 i11 + k1 beside l = 2 i11 + 1, but 2 i11 + 2 + k1
-    beside l = 2 i11 + 2; in 01 it is always l + k1).
-Points where the sources differ from 01 or from each other, and 01 decides:
-  - Table -2 puts (12,1) among 32 ports; P is 2 N1 N2, so 24. (1,1), the two ports of Table -1, is a setting in 01;
-  - Table -6, mode 1, prints i12 + k1, and Table -8 prints i12, k1, for l'; it is i11 + k1;
-  - v~_{l,m} is barred by three bits in 003, by the one of (2 l, m) in 01;
-  - bit 0 of a mask is bit 0 of its first byte in 01; the standard has bit strings, with no bytes.
-The radius 16384 of the weights and their order, x then y, are 01's; the standard has no weights.
+From 003:
+  - the settings of four ports and more with their O1 and O2 (Table -2), and P = 2 N1 N2 (the text above it);
+  - the modes, 1 and 2, and the ranks that a setting has: those for which Tables -5 to -12 have a row, and Table -1 a
+    column. 01's "v is 0, above 8 or above P" comes to the same;
+  - how many values an index has: i11, i12 and i2 by the headings of Tables -5 to -12; i13 by the rows of Tables -3 and
+    -4, and by the headings of Tables -7 and -8 for P >= 16; for two ports the rows of Table -1. All of it is legible;
+  - k1 and k2 (Tables -3 and -4); phi_n, theta_p, u_m, v_{l,m} and v~_{l,m};
+  - the matrices: W of two ports (Table -1) and of 1 to 6 and 8 layers (Tables -5 to -10 and -12; m'''' in the last of
+    8 columns is read as m'''); l and m of 1 to 6 layers in both modes, but for what stands below;
+  - the mask bits: how many, and which of them bars which precoder, for two ports and for more. A bit stands for the
+    quantity v_{l,m}, so a beam has the bit of the v_{l,m} with the same entries: this is what reduces l and m;
+  - bit v-1 of the rank mask, r_{v-1}, for four ports and more.
+From 000 and 002:
+  - l and m of 7 and 8 layers: for N2 > 1 as 002 prints them (003 has an i12 too many, 000 one too few), for N2 = 1 as
+    000 does (003 and 002 have a 0 too few);
+  - the ranges of 6 to 8 layers in both, and W of 6 layers in 000, are those of 003.
+From 01, where the sources are silent:
+  - the numbers of the refusals and their order, and what the record of a refused and of an accepted report holds;
+  - the two ports as a setting, (1,1), with i2 for the index of Table -1; that their mode is 1 or 2 and has no effect,
+    and that they have a rank mask;
+  - that an index without use has the value 0 alone;
+  - the bytes of a mask: bit k is bit k mod 8 of byte k / 8, and there are exactly as many bytes as the bits fill;
+  - phases in 1/192 turns; weights, of radius 16384, x then y; the order of a buffer, layer after layer, how long it
+    must be, and that what the answer does not need stays as lent.
+From 01, where the sources are illegible:
+  - W of 7 layers: Table -11 has 7 columns above 8 in 003, 8 in 000, 6 and a third row in 002. The first seven
+    coefficients of 000's second row are those of 01;
+  - m' of 5 layers for N2 > 1: Table -9, in 003 alone, prints i11, i11 + O1, i11 + O1, i12, i12 + O2 for l, l', l'', m,
+    m', m'', one too few.
+From 01, where 003 differs from it:
+  - P of (12,1): Table -2 has it among 32 ports, against the text above it. It is 24;
+  - l' of 2 layers in mode 1: Table -6 prints i12 + k1. l' and m' of 4 layers, P < 16: Table -8 prints "i12, k1" and
+    "i12, k2". They are i11 + k1 and i12 + k2;
+  - l' and m' of 2 layers in mode 2: for N2 > 1 Table -6 prints 2 i11 + k1 and 2 i12 + k2 beside every l and m; for
+    N2 = 1 it prints 2 i11 + k1 beside l = 2 i11 + 1, but l + k1 beside the other three. They are l + k1 and m + k2;
+  - v~_{l,m} has three bits in 003, each of which bars it; 01 reads the middle one, of (2 l, m).
 
 What is sent, for each of the two functions
 -------------------------------------------
@@ -78,28 +96,27 @@ import table
 
 TURN, RADIUS, SEED = 192, 16384, 38_214
 
-# ---- Settings (01; Table 5.2.2.2.1-2) --------------------------------------------------------------------------------
+# ---- Settings --------------------------------------------------------------------------------------------------------
 
 Setting = collections.namedtuple('Setting', 'N1 N2 O1 O2 P')
 
-PORTS = {2: [(1, 1)],
-         4: [(2, 1)],
-         8: [(2, 2), (4, 1)],
-         12: [(3, 2), (6, 1)],
-         16: [(4, 2), (8, 1)],
-         24: [(4, 3), (6, 2), (12, 1)],
-         32: [(4, 4), (8, 2), (16, 1)]}
+# Table 5.2.2.2.1-2: (N1, N2) and (O1, O2).
+TABLE_2 = [((2, 1), (4, 1)),
+           ((2, 2), (4, 4)),
+           ((4, 1), (4, 1)),
+           ((3, 2), (4, 4)),
+           ((6, 1), (4, 1)),
+           ((4, 2), (4, 4)),
+           ((8, 1), (4, 1)),
+           ((4, 3), (4, 4)),
+           ((6, 2), (4, 4)),
+           ((12, 1), (4, 1)),
+           ((4, 4), (4, 4)),
+           ((8, 2), (4, 4)),
+           ((16, 1), (4, 1))]
 
-# Two ports use neither O1 nor O2 (Table -1); 1 stands for them.
-SETTINGS = {(N1, N2): Setting(N1, N2, 4 if P > 2 else 1, 4 if N2 > 1 else 1, P)
-            for P, pairs in PORTS.items() for N1, N2 in pairs}
-
-MODES = (1, 2)
-
-
-def ranks_of(s):
-    """The ranks v of a setting: 1 to 8, none above P."""
-    return range(1, min(8, s.P) + 1)
+# (1,1) is 01's name for the two ports of Table -1, which use neither O1 nor O2; 1 stands for them.
+SETTINGS = {(N1, N2): Setting(N1, N2, O1, O2, 2 * N1 * N2) for (N1, N2), (O1, O2) in [((1, 1), (1, 1)), *TABLE_2]}
 
 
 # ---- Quantities (5.2.2.2.1) ------------------------------------------------------------------------------------------
@@ -258,6 +275,7 @@ def matrix(report):
         # N2 > 1: l, l', l'' and m, m', m'' as Table -10 has them in 003; m' of 5 layers from 01.
         others = [beam(1, 0), beam(1, 1)] if N2 > 1 else [beam(1, 0), beam(2, 0)]
         return (W5 if v == 5 else W6)(b, *others, f)
+    # As 002 has them for N2 > 1, and 000 for N2 = 1.
     others = [beam(1, 0), beam(0, 1), beam(1, 1)] if N2 > 1 else [beam(1, 0), beam(2, 0), beam(3, 0)]
     return (W7 if v == 7 else W8)(b, *others, f)
 
@@ -291,13 +309,45 @@ def block(s, v, coefficient, beam):
     return bytes(phases), struct.pack(f'<{len(weights)}h', *weights)
 
 
+# ---- Mask bits (5.2.2.2.1) -------------------------------------------------------------------------------------------
+
+# Two ports: the bits a_0 to a_5 by the number of layers and the codebook index.
+BITS_OF_TWO_PORTS = {1: [0, 1, 2, 3], 2: [4, 5]}
+
+
+def mask_bits(s):
+    """How many bits the beam mask has."""
+    return 6 if s.P == 2 else s.N1 * s.O1 * s.N2 * s.O2
+
+
+@functools.lru_cache(maxsize=None)
+def bit_by_phases(s):
+    """Bit a_{N2 O2 l + m} by the phases of its quantity v_{l,m}, l = 0, .., N1 O1 - 1, m = 0, .., N2 O2 - 1."""
+    bits = {block(s, 1, 1, Beam(v_beam, l, m))[0]: s.N2 * s.O2 * l + m
+            for l in range(s.N1 * s.O1) for m in range(s.N2 * s.O2)}
+    if len(bits) != mask_bits(s):
+        raise ArithmeticError(f'two bits of {s} stand for one beam')
+    return bits
+
+
+@functools.lru_cache(maxsize=None)
+def bits_of_beam(s, beam):
+    """The bits associated with all precoders that are based on a beam."""
+    if beam.vector is v_tilde:
+        l, m = beam.l, beam.m
+        _, middle, _ = ((s.N2 * s.O2 * (2 * l - 1) + m) % mask_bits(s),
+                        s.N2 * s.O2 * (2 * l) + m,
+                        s.N2 * s.O2 * (2 * l + 1) + m)
+        # 003 associates all three with v~_{l,m}; 01 reads the middle one, and 01 decides.
+        return [middle]
+    return [bit_by_phases(s)[block(s, 1, 1, beam)[0]]]
+
+
 def bits_of(s, v, i2, rows):
-    """The bits of the beam mask that W reads (01, Masks)."""
+    """The bits of the beam mask that W reads."""
     if s.P == 2:
-        return (i2,) if v == 1 else (4 + i2,)
-    rows_of_mask = {((2 if beam.vector is v_tilde else 1) * beam.l % (s.N1 * s.O1), beam.m % (s.N2 * s.O2))
-                    for row in rows for _, beam in row}
-    return tuple(sorted(s.N2 * s.O2 * l + m for l, m in rows_of_mask))
+        return (BITS_OF_TWO_PORTS[v][i2],)
+    return tuple(sorted({bit for row in rows for _, beam in row for bit in bits_of_beam(s, beam)}))
 
 
 Precoder = collections.namedtuple('Precoder', 'phases weights bits')
@@ -330,35 +380,66 @@ def answer_of(function, report):
     return precoder(report).phases if function is PHASES else precoder(report).weights
 
 
-# ---- Ranges, masks and refusals (01) ---------------------------------------------------------------------------------
+# ---- Ranges (headings of Tables 5.2.2.2.1-5 to -12) ------------------------------------------------------------------
+
+# A row of a table: the modes and the case it is for, and the values of each index.
+Row = collections.namedtuple('Row', 'modes case i11 i12 i13 i2')
+
+MODES = (1, 2)
+
+# Of an index that has no use: 01 gives it the value 0.
+ZERO = range(1)
+
+
+@functools.lru_cache(maxsize=None)
+def rows_of_tables(s):
+    """By the number of layers, the rows of Tables 5.2.2.2.1-5 to -12 in the order of 003."""
+    N1, N2, O1, O2, P = s
+    k_rows_3, k_rows_4 = range(len(table_3(N1, N2))), range(len(TABLE_4.get((N1, N2), [])))
+    table_5 = [Row([1], True, range(N1 * O1), range(N2 * O2), ZERO, range(4)),
+               Row([2], N2 > 1, range(N1 * O1 // 2), range(N2 * O2 // 2), ZERO, range(16)),
+               Row([2], N2 == 1, range(N1 * O1 // 2), range(1), ZERO, range(16))]
+    table_6 = [Row([1], True, range(N1 * O1), range(N2 * O2), k_rows_3, range(2)),
+               Row([2], N2 > 1, range(N1 * O1 // 2), range(N2 * O2 // 2), k_rows_3, range(8)),
+               Row([2], N2 == 1, range(N1 * O1 // 2), range(1), k_rows_3, range(8))]
+    table_7 = [Row([1, 2], P < 16, range(N1 * O1), range(N2 * O2), k_rows_4, range(2)),
+               Row([1, 2], P >= 16, range(N1 * O1 // 2), range(N2 * O2), range(4), range(2))]
+    table_9 = [Row([1, 2], N2 > 1, range(N1 * O1), range(N2 * O2), ZERO, range(2)),
+               Row([1, 2], N1 > 2 and N2 == 1, range(N1 * O1), range(1), ZERO, range(2))]
+    table_11 = [Row([1, 2], N1 == 4 and N2 == 1, range(N1 * O1 // 2), range(1), ZERO, range(2)),
+                Row([1, 2], N1 > 4 and N2 == 1, range(N1 * O1), range(1), ZERO, range(2)),
+                Row([1, 2], N1 == 2 and N2 == 2, range(N1 * O1), range(N2 * O2), ZERO, range(2)),
+                Row([1, 2], N1 > 2 and N2 == 2, range(N1 * O1), range(N2 * O2 // 2), ZERO, range(2)),
+                Row([1, 2], N1 > 2 and N2 > 2, range(N1 * O1), range(N2 * O2), ZERO, range(2))]
+    # Tables -8, -10 and -12 have the headings of the tables before them.
+    tables = [table_5, table_6, table_7, table_7, table_9, table_9, table_11, table_11]
+    return {v: [row for row in rows if row.case] for v, rows in enumerate(tables, 1)}
+
+
+@functools.lru_cache(maxsize=None)
+def ranks_of(s):
+    """The ranks v of a setting: those for which a table has a row for it, and for two ports the columns of Table -1."""
+    return tuple(TABLE_1) if s.P == 2 else tuple(v for v, rows in rows_of_tables(s).items() if rows)
+
 
 @functools.lru_cache(maxsize=None)
 def values(s, mode, v):
     """How many values i11, i12, i13 and i2 have."""
     if s.P == 2:
-        return 1, 1, 1, {1: 4, 2: 2}[v]
-    i11, i12, i13, i2 = s.N1 * s.O1, s.N2 * s.O2, 1, 4 if v == 1 else 2
-    if v == 2:
-        i13 = len(table_3(s.N1, s.N2))
-    if v in (3, 4):
-        i13 = len(TABLE_4[s.N1, s.N2]) if s.P < 16 else 4
-    if mode == 2 and v <= 2:
-        i11, i12, i2 = i11 // 2, i12 // 2 if s.N2 > 1 else 1, 4 * i2
-    if v in (3, 4) and s.P >= 16:
-        i11 = i11 // 2
-    if v in (7, 8) and (s.N1, s.N2) == (4, 1):
-        i11 = i11 // 2
-    if v in (7, 8) and s.N1 > 2 and s.N2 == 2:
-        i12 = i12 // 2
-    return i11, i12, i13, i2
+        return 1, 1, 1, len(TABLE_1[v])
+    (row,) = (row for row in rows_of_tables(s)[v] if mode in row.modes)
+    return len(row.i11), len(row.i12), len(row.i13), len(row.i2)
 
+
+# ---- Masks and refusals ----------------------------------------------------------------------------------------------
 
 def mask_bytes(s):
-    return 1 if s.P == 2 else s.N1 * s.O1 * s.N2 * s.O2 // 8
+    """As many as the bits fill (01)."""
+    return (mask_bits(s) + 7) // 8
 
 
 def mask_of(bits, length):
-    """The mask in which exactly these bits are ones: bit k is bit k mod 8 of byte k / 8."""
+    """The mask in which exactly these bits are ones: bit k is bit k mod 8 of byte k / 8 (01)."""
     return sum(1 << k for k in bits).to_bytes(length, 'little')
 
 
@@ -380,7 +461,7 @@ def refusal(function, report, ranks, mask, length):
         return 2
     if len(mask) != mask_bytes(s):
         return 3
-    if v == 0 or v > 8 or v > s.P:
+    if v not in ranks_of(s):
         return 4
     if not ranks >> (v - 1) & 1:
         return 5
