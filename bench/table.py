@@ -61,6 +61,12 @@ def growth(mean, what, letter, keys, part):
 
 
 def main():
+    if sys.argv[1:] in (['--help'], ['-h']):
+        print(__doc__.strip())
+        return 0
+    if len(sys.argv) < 4:
+        print('table: it takes REPORTS CALLS FILE.. or --help', file=sys.stderr)
+        return 2
     reports, calls, *paths = sys.argv[1:]
     mean, calls_of = read(paths)
     keys = sorted({key[:4] for key in mean})

@@ -7,7 +7,9 @@ CLAIMS: every theorem of Demands has its row, in order, and every theorem named 
 table is `| theorem | demand | ..` and speaks of Demands.antt; a row of the others is `| theorem | file | ..`. Names in the
 text must stand in one of the tables.
 RULES: a section `### [file](..)` has rows `| definition | rule |`; each definition is found in that file, in its order.
-The last line is `N passed, M failed`. It needs Python alone, and takes a moment.
+The last line is `N passed, M failed`.
+
+Needs Python 3.9; takes a moment. Status 1: a test failed; 2: wrong words.
 """
 import re
 import sys
@@ -59,10 +61,12 @@ def of_rules():
 
 
 def main():
+    if sys.argv[1:] in (["--help"], ["-h"]):
+        print(__doc__.strip())
+        return 0
     if sys.argv[1:]:
-        help_asked = sys.argv[1:] in (["--help"], ["-h"])
-        print(__doc__.strip(), file=sys.stdout if help_asked else sys.stderr)
-        return 0 if help_asked else 2
+        print("claims: it takes no words but --help", file=sys.stderr)
+        return 2
     tests = {**dict(of_claims()), **dict(of_rules())}
     for name in (name for name, passed in tests.items() if not passed):
         print(f"FAIL {name}")

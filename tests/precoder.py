@@ -4,7 +4,8 @@
     precoder.py COMMAND..
 
 COMMAND starts the program built from batch.c, which calls one of the two functions for each request on its standard
-input. The last line is `N passed, M failed`; the exit status is 0 only if N is above 0 and M is 0.
+input. The last line is `N passed, M failed`; the exit status is 0 only if N is above 0 and M is 0, and 2 for wrong words.
+Needs Python 3.9; takes about a minute. tests/calls builds the program and starts this.
 
 Where the expected answers come from
 ------------------------------------
@@ -1159,8 +1160,11 @@ def random_requests(tests, function):
 
 
 def main(command):
-    if not command:
-        print('usage: precoder.py COMMAND..', file=sys.stderr)
+    if command in (['--help'], ['-h']):
+        print(__doc__.strip())
+        return 0
+    if not command or command[0].startswith('-'):
+        print('precoder: it takes COMMAND.. or --help', file=sys.stderr)
         return 2
     tests = Tests()
     for part in (worked_cases, weights_of_phases, count_rule):
