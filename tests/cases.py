@@ -1,5 +1,6 @@
 #!/usr/bin/env python3
-r"""Tests the program pmi: the stored cases of tests/cases, and the ways in which input can arrive.
+r"""Tests the program pmi: the stored cases of tests/cases, the ways in which input can arrive, and what it says where
+input cannot be read or output cannot be written.
 
     cases.py COMMAND..    test; COMMAND starts pmi
     cases.py --write      write tests/cases anew
@@ -18,7 +19,7 @@ standard output, each behind four spaces:
         unreadable
 
 The input is a Python string in which each character is a byte; a long run in it is one part of it, so many times. Both
-are compared to the byte; nothing may come on standard error, and the exit status is 0. A case stands in the file of its
+are compared to the byte; the exit status is 0, and nothing comes on standard error unless a read or a write fails. A case stands in the file of its
 kind, with which its name begins:
 
   worked       the reports that 01 works out, with the answers written here
@@ -47,6 +48,7 @@ import sys
 import tempfile
 import termios
 import time
+import tty
 from pathlib import Path
 
 from precoder import MODES, PHASES, SETTINGS, Report, ones, precoder, ranks_of, refusal, reports_in_range, values
@@ -537,19 +539,24 @@ PATIENCE, MOST_HUNG = 15, 6
 Came = collections.namedtuple('Came', 'output errors status')
 
 
+def answered(data):
+    """What comes where nothing fails."""
+    return Came(answer_of(data).encode(), b'', 0)
+
+
 class Program:
     """The program under test, each time started anew."""
 
     def __init__(self, command):
         self.command, self.hung = command, 0
 
-    def start(self, source, *starter):
-        return subprocess.Popen([*starter, *self.command], stdin=source, stdout=subprocess.PIPE, stderr=subprocess.PIPE)
+    def start(self, source, *starter, to=subprocess.PIPE):
+        return subprocess.Popen([*starter, *self.command], stdin=source, stdout=to, stderr=subprocess.PIPE)
 
     def finish(self, process):
         try:
             output, errors = process.communicate(timeout=PATIENCE)
-            return Came(output, errors, process.returncode)
+            return Came(output or b'', errors, process.returncode)
         except subprocess.TimeoutExpired:
             self.hung += 1
             process.kill()
@@ -578,6 +585,29 @@ class Program:
     def without_input(self):
         """Its standard input is closed."""
         return self.finish(self.start(None, 'bash', '-c', 'exec "$@" <&-', 'bash'))
+
+    def from_broken(self, data):
+        """Its standard input has the data, and every read after that fails: the master of a terminal that has been closed."""
+        master, slave = os.openpty()
+        tty.setraw(slave)
+        os.write(slave, data)
+        os.close(slave)
+        with open(master, 'rb', buffering=0) as source:
+            return self.finish(self.start(source))
+
+    def into_file(self, data, path, mode='wb'):
+        """Its standard output is a file or a device."""
+        with tempfile.TemporaryFile() as source, open(path, mode) as to:
+            source.write(data)
+            source.seek(0)
+            return self.finish(self.start(source, to=to))
+
+    def without_output(self, data):
+        """Its standard output is closed."""
+        with tempfile.TemporaryFile() as source:
+            source.write(data)
+            source.seek(0)
+            return self.finish(self.start(source, 'bash', '-c', 'exec "$@" >&-', 'bash'))
 
     def from_pipe(self, *pieces, held_open=False):
         """Each piece is sent when all before it has been read; the pipe is then closed, or held open to the end."""
@@ -626,8 +656,10 @@ class Tests:
             print(f'FAIL {name}', *lines, sep='\n    ')
 
     def check_run(self, name, data, expected, came):
-        self.check(name, came == Came(expected, b'', 0), f'input     {shown(data)}', f'expected  {shown(expected)}',
-                   f'came      {shown(came.output)}, errors {shown(came.errors)}, status {came.status}')
+        def said(come):
+            return f'{shown(come.output)}, errors {shown(come.errors)}, status {come.status}'
+
+        self.check(name, came == expected, f'input     {shown(data)}', f'expected  {said(expected)}', f'came      {said(came)}')
 
     def report(self):
         if self.failed > MOST_SHOWN:
@@ -688,8 +720,6 @@ def deliveries(program):
     yield '257 bytes byte by byte', long[:257], by_bytes(long[:257])
     yield 'nothing through a pipe', b'', lambda: program.from_pipe()
     yield 'nothing from a device', b'', lambda: program.from_file('/dev/null')
-    yield 'standard input closed', b'', program.without_input
-    yield 'standard input open for writing only', b'', lambda: program.from_file('/dev/null', 'wb')
     for late in (b'\n', b'\0', b' ', b'x', EXAMPLE):
         yield (f'{late!r} after the example has been read', EXAMPLE + late,
                lambda late=late: program.from_pipe(EXAMPLE, late))
@@ -702,6 +732,21 @@ def deliveries(program):
     yield 'the example without end', EXAMPLE * 20, lambda: program.from_command('yes', EXAMPLE[:-1].decode())
     yield 'newlines without end', b'\n' * 300, lambda: program.from_command('yes', '')
     yield 'zero bytes without end', bytes(300), lambda: program.from_file('/dev/zero')
+
+
+def faults(program):
+    """Input that cannot be read, and output that cannot be written: a name, the input, what then comes, and how it is sent."""
+    not_read = Came(b'unreadable\n', b'pmi: the input could not be read\n', 0)
+    not_written = Came(b'', b'pmi: the answer could not be written\n', 0)
+    yield 'standard input closed', b'', not_read, program.without_input
+    yield 'standard input open for writing only', b'', not_read, lambda: program.from_file('/dev/null', 'wb')
+    yield 'an error instead of any input', b'', not_read, lambda: program.from_broken(b'')
+    yield 'an error after the example', EXAMPLE, not_read, lambda: program.from_broken(EXAMPLE)
+    for data in (EXAMPLE, b'2 1 1 2 8 0 1 0\n', b''):
+        for name, send in (('a full device', lambda data=data: program.into_file(data, '/dev/full')),
+                           ('standard output open for reading only', lambda data=data: program.into_file(data, '/dev/null', 'rb')),
+                           ('standard output closed', lambda data=data: program.without_output(data))):
+            yield f'{name} for {answer_of(data).split()[0]}', data, not_written, send
 
 
 RANDOM_INPUTS, FEWEST_OF_A_KIND = 300, 50
@@ -753,15 +798,17 @@ def main(arguments):
     stored = [case for name in sorted(files) for case in cases_in(files[name])]
     check_store(tests, files, stored)
     check_coverage(tests, dict(stored))
-    runs = [(name, data, answer, lambda data=data: program.from_file_of(data)) for name, (data, answer) in stored]
-    runs += [(name, data, answer_of(data).encode(), send) for name, data, send in deliveries(program)]
-    drawn = [(f'random input {k}', data, answer_of(data).encode(), lambda data=data: program.from_pipe(data))
+    runs = [(name, data, Came(answer, b'', 0), lambda data=data: program.from_file_of(data))
+            for name, (data, answer) in stored]
+    arrived = [(name, data, answered(data), send) for name, data, send in deliveries(program)]
+    drawn = [(f'random input {k}', data, answered(data), lambda data=data: program.from_pipe(data))
              for k, data in enumerate(random_inputs())]
-    words = collections.Counter(answer.split()[0].decode() for _, _, answer, _ in drawn)
+    words = collections.Counter(expected.output.split()[0].decode() for _, _, expected, _ in drawn)
     tests.check('random inputs of every kind', len(words) == 3 and min(words.values()) >= FEWEST_OF_A_KIND, str(words))
-    print(f'{len(runs) - len(stored)} deliveries, {len(drawn)} random inputs: '
+    failing = list(faults(program))
+    print(f'{len(arrived)} deliveries, {len(failing)} failing reads and writes, {len(drawn)} random inputs: '
           + ', '.join(f'{word} {count}' for word, count in sorted(words.items())))
-    runs += drawn
+    runs += arrived + failing + drawn
     not_run = Came(b'', b'', f'not run, as {MOST_HUNG} hung')
     with concurrent.futures.ThreadPoolExecutor(2) as pool:
         answers = pool.map(lambda run: run[3]() if program.hung < MOST_HUNG else not_run, runs)

@@ -4,8 +4,9 @@
 // With nothing but the kit:      tools/x86 --build target/examples/precoder examples/c/precoder.c aspenflick
 //                                tools/x86 target/examples/precoder
 // With a C compiler on x86-64:   tools/install target/install
-//                                export PKG_CONFIG_PATH=target/install/lib/pkgconfig
-//                                cc examples/c/precoder.c $(pkg-config --cflags --libs --static aspenflick) -o precoder
+//                                export PKG_CONFIG_PATH=$PWD/target/install/lib/pkgconfig
+//                                cc examples/c/precoder.c $(pkg-config --cflags --libs aspenflick) -o precoder
+//                                LD_LIBRARY_PATH=target/install/lib ./precoder
 #include <stdio.h>
 #include "aspenflick.h"
 
