@@ -1,4 +1,4 @@
-// The precoder of a report, written into a lent buffer.
+// The precoder of a single-panel report, written into a lent buffer.
 use plan::Record;
 use report::Report;
 use turn::Part;

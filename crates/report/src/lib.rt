@@ -1,4 +1,4 @@
-// A report by its own numbers: the first refusal that needs nothing else, or its beams.
+// A single-panel report by its own numbers: the first refusal that needs nothing else, or its beams.
 use settings::Ranges;
 ghost use mathlib.Core.Path.{_≡_};
 ghost use Rattle.report.specs.Beams.{beamsOf};
