@@ -9,7 +9,7 @@
 //                       prints how often each instruction of one call is executed: its address, less that of the
 //                       program's start, and the count
 #define _GNU_SOURCE
-#include "aspenflick.h"
+#include "../reference/baseline.h"
 #include <signal.h>
 #include <stdio.h>
 #include <stdlib.h>
@@ -22,8 +22,6 @@
                                             uint8_t ranks, uint8_t *out, size_t out_len)
 #define WEIGHTS(name) aspenflick_record name(aspenflick_report r, const uint8_t *beams, size_t beams_len, \
                                              uint8_t ranks, int16_t *out, size_t out_len)
-PHASES(baseline_phases);
-WEIGHTS(baseline_weights);
 PHASES(eigen_phases);
 WEIGHTS(eigen_weights);
 typedef PHASES(phases_function);

@@ -1,11 +1,6 @@
-// The whole job in plain C, written by hand: what the instructions of aspenflick_phases and aspenflick_weights are
-// compared with.
-#include "aspenflick.h"
-
-aspenflick_record baseline_phases(aspenflick_report r, const uint8_t *beams, size_t beams_len, uint8_t ranks,
-                                  uint8_t *out, size_t out_len);
-aspenflick_record baseline_weights(aspenflick_report r, const uint8_t *beams, size_t beams_len, uint8_t ranks,
-                                   int16_t *out, size_t out_len);
+// The whole job in plain C, written by hand: what the instructions of aspenflick_phases and aspenflick_weights, and their
+// answers to random calls, are compared with.
+#include "baseline.h"
 
 enum { TURN = 192, HALF = TURN / 2, QUARTER = TURN / 4, EIGHTH = TURN / 8 };
 enum { MOST_N1 = 16, MOST_N2 = 4, MOST_V = 8, MOST_ENTRIES = 256 };

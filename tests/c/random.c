@@ -7,15 +7,10 @@
 // that fails it is printed. The last line is `N passed, M failed`; the exit status is 0 only if M is 0.
 // Freestanding: of the C library only printf, memcpy and memcmp.
 #include <stdio.h>
-#include "aspenflick.h"
+#include "../../reference/baseline.h"
 
 void *memcpy(void *, const void *, size_t);
 int memcmp(const void *, const void *, size_t);
-
-aspenflick_record baseline_phases(aspenflick_report r, const uint8_t *beams, size_t beams_len, uint8_t ranks,
-                                  uint8_t *out, size_t out_len);
-aspenflick_record baseline_weights(aspenflick_report r, const uint8_t *beams, size_t beams_len, uint8_t ranks,
-                                   int16_t *out, size_t out_len);
 
 enum { PHASES, WEIGHTS, FUNCTIONS };
 static const char *const function_names[FUNCTIONS] = {"phases", "weights"};
