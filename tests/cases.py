@@ -19,8 +19,8 @@ standard output, each behind four spaces:
         unreadable
 
 The input is a Python string in which each character is a byte; a long run in it is one part of it, so many times. Both
-are compared to the byte; the exit status is 0, and nothing comes on standard error unless a read or a write fails. A case stands in the file of its
-kind, with which its name begins:
+are compared to the byte; the exit status is 0, and nothing comes on standard error unless a read or a write fails. A
+case stands in the file of its kind, with which its name begins:
 
   worked       the reports that 01 works out, with the answers written here
   setting      every setting, mode and rank: all indices at their last values, and indices drawn within their ranges
@@ -587,7 +587,7 @@ class Program:
         return self.finish(self.start(None, 'bash', '-c', 'exec "$@" <&-', 'bash'))
 
     def from_broken(self, data):
-        """Its standard input has the data, and every read after that fails: the master of a terminal that has been closed."""
+        """Its standard input has the data, and then every read fails: the master of a terminal that has been closed."""
         master, slave = os.openpty()
         tty.setraw(slave)
         os.write(slave, data)
@@ -659,7 +659,8 @@ class Tests:
         def said(come):
             return f'{shown(come.output)}, errors {shown(come.errors)}, status {come.status}'
 
-        self.check(name, came == expected, f'input     {shown(data)}', f'expected  {said(expected)}', f'came      {said(came)}')
+        self.check(name, came == expected, f'input     {shown(data)}', f'expected  {said(expected)}',
+                   f'came      {said(came)}')
 
     def report(self):
         if self.failed > MOST_SHOWN:
@@ -735,7 +736,7 @@ def deliveries(program):
 
 
 def faults(program):
-    """Input that cannot be read, and output that cannot be written: a name, the input, what then comes, and how it is sent."""
+    """Reads and writes that fail: a name, the input, what then comes, and how it is sent."""
     not_read = Came(b'unreadable\n', b'pmi: the input could not be read\n', 0)
     not_written = Came(b'', b'pmi: the answer could not be written\n', 0)
     yield 'standard input closed', b'', not_read, program.without_input
@@ -743,10 +744,11 @@ def faults(program):
     yield 'an error instead of any input', b'', not_read, lambda: program.from_broken(b'')
     yield 'an error after the example', EXAMPLE, not_read, lambda: program.from_broken(EXAMPLE)
     for data in (EXAMPLE, b'2 1 1 2 8 0 1 0\n', b''):
-        for name, send in (('a full device', lambda data=data: program.into_file(data, '/dev/full')),
-                           ('standard output open for reading only', lambda data=data: program.into_file(data, '/dev/null', 'rb')),
-                           ('standard output closed', lambda data=data: program.without_output(data))):
-            yield f'{name} for {answer_of(data).split()[0]}', data, not_written, send
+        word = answer_of(data).split()[0]
+        yield f'{word} to a full device', data, not_written, lambda data=data: program.into_file(data, '/dev/full')
+        yield (f'{word} where standard output is open for reading only', data, not_written,
+               lambda data=data: program.into_file(data, '/dev/null', 'rb'))
+        yield f'{word} where standard output is closed', data, not_written, lambda data=data: program.without_output(data)
 
 
 RANDOM_INPUTS, FEWEST_OF_A_KIND = 300, 50

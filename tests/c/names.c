@@ -43,10 +43,11 @@ static const struct {
 static void refusals(void) {
     beams[4 * 8 / 8] &= (uint8_t)~2;  // bars (4,1): 4 rows of 8 bits, and 1
     for (size_t k = 0; k < sizeof cases / sizeof cases[0]; k++) {
-        aspenflick_record a = aspenflick_phases(cases[k].report, beams, cases[k].bytes, cases[k].ranks, phases, cases[k].room);
-        aspenflick_record b = aspenflick_weights(cases[k].report, beams, cases[k].bytes, cases[k].ranks, weights, 2 * cases[k].room);
-        check(a.refusal == cases[k].name, cases[k].what);
-        check(b.refusal == cases[k].name, cases[k].what);
+        aspenflick_report r = cases[k].report;
+        size_t bytes = cases[k].bytes, room = cases[k].room;
+        uint8_t ranks = cases[k].ranks;
+        check(aspenflick_phases(r, beams, bytes, ranks, phases, room).refusal == cases[k].name, cases[k].what);
+        check(aspenflick_weights(r, beams, bytes, ranks, weights, 2 * room).refusal == cases[k].name, cases[k].what);
     }
     beams[4 * 8 / 8] = 255;
 }
