@@ -11,7 +11,7 @@ use Rattle.ground.specs.Lists.{Member, member-first, member-further, NoR
 use Rattle.ground.specs.First.{first, numbered, None, FirstOf}
 use Rattle.ground.specs.Unique.{Unique, UniqueLeft}
 use Rattle.ground.specs.Copied.{Copied}
-use Rattle.ground.proofs.Lists.{apart, apart-once}
+use Rattle.ground.proofs.Lists.{unlike, unlike-once}
 use Rattle.ground.proofs.First.{first-none, first-of, first-only}
 
 -- ---- the first number above 5
@@ -68,8 +68,8 @@ eight-not-member (member-further (member-further (member-first e))) = omega arit
 
 -- 3, 7 and 9 stand there once
 pub sample-once : NoRepeats sample
-unfolding some apart
-sample-once = apart-once eqb eqb-refl sample tt
+unfolding some unlike
+sample-once = unlike-once eqb eqb-refl sample tt
 
 -- of 3, 7 and 3 the first stands there twice
 pub three-twice : NoRepeats {A = ℕ} (3 ∷ 7 ∷ 3 ∷ []) → ⊥

@@ -73,17 +73,17 @@ module _ {A : Type 0} where
   ]
 
   -- no element passes the test with one after it
-  unfoldable pub apart : (A → A → Bool) → List A → Bool
-  apart same [] = true
-  apart same (x ∷ xs) = not (some (same x) xs) && apart same xs
+  unfoldable pub unlike : (A → A → Bool) → List A → Bool
+  unlike same [] = true
+  unlike same (x ∷ xs) = not (some (same x) xs) && unlike same xs
 
-  pub apart-once : (same : A → A → Bool) → ((x : A) → T (same x x)) → (xs : List A) → T (apart same xs) → NoRepeats xs
-  unfolding apart
-  apart-once same equal [] t = once-nil
-  apart-once same equal (x ∷ xs) t =
+  pub unlike-once : (same : A → A → Bool) → ((x : A) → T (same x x)) → (xs : List A) → T (unlike same xs) → NoRepeats xs
+  unfolding unlike
+  unlike-once same equal [] t = once-nil
+  unlike-once same equal (x ∷ xs) t =
       once-cons
-      (λ m. T-not (some (same x) xs) (and-left (not (some (same x) xs)) (apart same xs) t) (some-at (same x) m (equal x)))
-      (apart-once same equal xs (and-right (not (some (same x) xs)) (apart same xs) t))
+      (λ m. T-not (some (same x) xs) (and-left (not (some (same x) xs)) (unlike same xs) t) (some-at (same x) m (equal x)))
+      (unlike-once same equal xs (and-right (not (some (same x) xs)) (unlike same xs) t))
 
 -- ---- lists of w elements, one after the other
 

@@ -30,13 +30,13 @@ unfolding sum join
 length-along f g same [] = refl
 length-along f g same (x ∷ xs) = omega (arith, length-append (f x) (along xs f), same x, length-along f g same xs)
 
-pub length-numbers : (k n : ℕ) → length (numbersFrom k n) ≡ n
+pub length-numbers-from : (k n : ℕ) → length (numbersFrom k n) ≡ n
 unfolding numbersFrom
-length-numbers k zero = refl
-length-numbers k (suc n) = ap suc (length-numbers (suc k) n)
+length-numbers-from k zero = refl
+length-numbers-from k (suc n) = ap suc (length-numbers-from (suc k) n)
 
 -- of lists of w elements for each of n numbers it is the product
 pub length-times : {B : Type 0} (f : ℕ → List B) (w : ℕ) → ((i : ℕ) → length (f i) ≡ w) → (k n : ℕ)
     → length (along (numbersFrom k n) f) ≡ n * w
 length-times f w same k n =
-    length-join f (numbersFrom k n) 0 w (λ j h. same (getD (numbersFrom k n) j 0)) ∙ ap (λ (m : ℕ). m * w) (length-numbers k n)
+    length-join f (numbersFrom k n) 0 w (λ j h. same (getD (numbersFrom k n) j 0)) ∙ ap (λ (m : ℕ). m * w) (length-numbers-from k n)

@@ -9,7 +9,7 @@ use borrow.Author.Tests.{ltb-true, ltb-false}
 use Rattle.ground.specs.Lists.{some, Member, member-first, member-further, NoRepeats}
 use Rattle.ground.proofs.Booleans.{is-true, cond-both, either}
 use Rattle.ground.proofs.Tests.{or-cases, two-eq, and-both}
-use Rattle.ground.proofs.Lists.{some-at, member-some, apart, apart-once}
+use Rattle.ground.proofs.Lists.{some-at, member-some, unlike, unlike-once}
 use Rattle.ground.proofs.Members.{number-member, member-number, numbers-once}
 use Rattle.settings.specs.Settings.{settings, isSetting}
 use Rattle.settings.specs.Ranges.{isMode, isRank, modes, ranksOf}
@@ -36,8 +36,8 @@ module _ (n1 n2 : ℕ) where
   member-setting m = is-true _ (some-at (same (n1, n2)) m (same-self (n1, n2)))
 
 pub settings-once : NoRepeats settings
-unfolding settings some apart
-settings-once = apart-once same same-self settings tt
+unfolding settings some unlike
+settings-once = unlike-once same same-self settings tt
 
 -- ---- modes
 
@@ -55,8 +55,8 @@ module _ (mode : ℕ) where
   member-mode (member-further (member-first e)) = rw e
 
 pub modes-once : NoRepeats modes
-unfolding modes some apart
-modes-once = apart-once eqb eqb-refl modes tt
+unfolding modes some unlike
+modes-once = unlike-once eqb eqb-refl modes tt
 
 -- ---- ranks
 
