@@ -1,5 +1,6 @@
 #!/usr/bin/env python3
-"""Checks docs/CLAIMS.md against the proofs, and docs/RULES.md against the definitions.
+"""Checks docs/CLAIMS.md against the proofs, docs/RULES.md against the definitions, and the header's table of ranges against
+the second program.
 
 usage: tests/claims.py
 
@@ -7,6 +8,8 @@ CLAIMS: every theorem of Demands has its row, in order, and every theorem named 
 table is `| theorem | demand | ..` and speaks of Demands.antt; a row of the others is `| theorem | file | ..`. Names in the
 text must stand in one of the tables.
 RULES: a section `### [file](..)` has rows `| definition | rule |`; each definition is found in that file, in its order.
+Header: a row of the table has the mode, the ranks, the values of i11, i12, i13 and i2, and for which P; a letter behind a
+value leads to where it is another. For every setting, mode and rank one row is meant, and its values are precoder.py's.
 The last line is `N passed, M failed`.
 
 Needs Python 3.9; takes a moment. Status 1: a test failed; 2: wrong words.
@@ -14,6 +17,8 @@ Needs Python 3.9; takes a moment. Status 1: a test failed; 2: wrong words.
 import re
 import sys
 from pathlib import Path
+
+from precoder import MODES, SETTINGS, ranks_of, values
 
 ROOT = Path(__file__).resolve().parent.parent
 DEMANDS = "crates/plan/specs/Demands.antt"
@@ -60,6 +65,42 @@ def of_rules():
         yield f"the rules of {file}, in order", bool(names) and names == [name for name in there if name in names]
 
 
+ROW = re.compile(r"^//     (two ports|mode \d|either mode)? +v = (\d)(?:, (\d))?  +(.*)$", re.M)
+NOTE = re.compile(r"\((\w)\) (\d.*?)(?=  |\n)")
+OTHER = re.compile(r"(\d+) (?:at|if) ((?:\(\d+,\d+\)|, (?=\()| and |n2 = 1)+)")
+
+
+def value_of(cell, notes, s):
+    """How many values a cell gives an index at a setting; None if it says nothing of that."""
+    plain, note = re.fullmatch(r"([\w*/]*) ?(?:\((\w)\))?", cell).groups()
+    for number, places in OTHER.findall(notes.get(note, "")):
+        if f"({s.N1},{s.N2})" in places or (places == "n2 = 1" and s.N2 == 1):
+            return int(number)
+    M = 1 if s.N2 == 1 else 4 * s.N2
+    return {"4*n1": 4 * s.N1, "2*n1": 2 * s.N1, "M": M, "M/2": M // 2}.get(plain, int(plain) if plain.isdigit() else None)
+
+
+def values_in_header(header, s, mode, v):
+    """The values of the indices, of each row of the header's table that is meant."""
+    meant = ["two ports"] if s.P == 2 else ["either mode", f"mode {mode}"]
+    ports, notes, label = "P below 16" if s.P < 16 else "P of 16 or more", dict(NOTE.findall(header)), None
+    for found in ROW.finditer(header):
+        label = found[1] or label
+        cells = re.split("  +", found[4])
+        if label in meant and str(v) in (found[2], found[3]) and cells[4:] in ([], [ports]):
+            yield tuple(value_of(cell, notes, s) for cell in cells[:4])
+
+
+def of_header():
+    """The tests of the header's table."""
+    header = read("include/aspenflick.h")
+    for s in SETTINGS.values():
+        for mode in MODES:
+            for v in ranks_of(s):
+                found = list(values_in_header(header, s, mode, v))
+                yield f"the header's values at ({s.N1},{s.N2}), mode {mode}, v = {v}", found == [values(s, mode, v)]
+
+
 def main():
     if sys.argv[1:] in (["--help"], ["-h"]):
         print(__doc__.strip())
@@ -67,7 +108,7 @@ def main():
     if sys.argv[1:]:
         print("claims: it takes no words but --help", file=sys.stderr)
         return 2
-    tests = {**dict(of_claims()), **dict(of_rules())}
+    tests = {**dict(of_claims()), **dict(of_rules()), **dict(of_header())}
     for name in (name for name, passed in tests.items() if not passed):
         print(f"FAIL {name}")
     failed = sum(not passed for passed in tests.values())
