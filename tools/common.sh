@@ -29,6 +29,14 @@ name_kits() {
     [[ $here == "$made" ]] || say "this is made for $made, and rt here is $here"
 }
 
+# has_python: whether there is a python3, of the least version that our files need
+has_python() {
+    command -v python3 >/dev/null || { say 'there is no python3'; return 1; }
+    python3 -c 'import sys; sys.exit(sys.version_info < (3, 9))' && return
+    say "Python 3.9 or newer is needed, and python3 here is $(python3 --version 2>&1)"
+    return 1
+}
+
 # install_packages PACKAGE..: says that it installs them, and does
 install_packages() {
     say "installs by apt-get: $*"

@@ -1,5 +1,5 @@
-// Makes random calls of aspenflick_phases and aspenflick_weights and checks what comes of each, also against a second
-// implementation, baseline_phases and baseline_weights; then seeds faults into such calls and checks that each is seen.
+// Makes random calls of aspenflick_phases and aspenflick_weights and checks what comes of each, also against the
+// version by hand, baseline_phases and baseline_weights; then seeds faults into such calls and checks that each is seen.
 //
 //     random COUNT SEED
 //
@@ -162,8 +162,8 @@ static const char *const check_names[CHECKS] = {
     [OUT_GUARDS] = "the buffer's guards stand",
     [BEAMS_GUARDS] = "the mask's guards stand",
     [BEAMS] = "the mask is as lent",
-    [BASELINE_RECORD] = "the record is that of the second implementation",
-    [BASELINE_OUT] = "the buffer is that of the second implementation",
+    [BASELINE_RECORD] = "the record is that of the version by hand",
+    [BASELINE_OUT] = "the buffer is that of the version by hand",
 };
 
 // Faults, seeded into some calls, each with the check that has to see it.
