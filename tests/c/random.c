@@ -253,7 +253,7 @@ static int legal(int function, const uint8_t *bytes, size_t len) {
     return good;
 }
 
-// One request: two calls and one of the second implementation. The fault is seeded into a quarter of them; then failures
+// One request: two calls and one of the version by hand. The fault is seeded into a quarter of them; then failures
 // are counted, but not printed.
 static void ask(int function, uint64_t number, int fault) {
     request q = any_request(function);
@@ -306,7 +306,7 @@ static void ask(int function, uint64_t number, int fault) {
         if (holds[check] || failures[function][check]++ || fault) continue;
         const aspenflick_report r = q.report;
         printf("%s: request %llu fails `%s`: N1=%u N2=%u mode=%u v=%u i11=%u i12=%u i13=%u i2=%u ranks=%u, "
-               "%zu bytes of mask, room for %zu: %u %u %u %u, the second implementation %u %u %u %u\n",
+               "%zu bytes of mask, room for %zu: %u %u %u %u, the version by hand %u %u %u %u\n",
                function_names[function], (unsigned long long)number, check_names[check], r.n1, r.n2, r.mode, r.v, r.i11,
                r.i12, r.i13, r.i2, q.ranks, q.beams_len, q.out_len, record.refusal, record.ports, record.layers,
                record.scale, baseline.refusal, baseline.ports, baseline.layers, baseline.scale);
