@@ -11,8 +11,8 @@
 // (4,4), (8,2) and (16,1). P is the number of ports, 2·n1·n2. M stands for the beams of the second direction: 1 if n2 = 1
 // and 4·n2 otherwise.
 //
-// How many values each index has, the first of them 0. An index with one value is 0: the rank or the setting has no use
-// for it.
+// How many values each index has, from 0 on. One that the rank or the setting has no use for has one value, so that it
+// must be 0.
 //
 //                                 i11       i12       i13       i2
 //     two ports     v = 1         1         1         1         4
@@ -33,7 +33,7 @@
 // `beams` has 4·n1·M bits, bit l·M + m for the beam (l,m), l modulo 4·n1 and m modulo M. Two ports have one byte: bits 0
 // to 3 for i2 with one layer, bits 4 and 5 for i2 with two. Three and four layers of 16 ports or more have half-length
 // beams, for which one bit is read, that of (2·i11, i12). The standard ties such a beam to two bits more, those of
-// (2·i11 - 1, i12) and (2·i11 + 1, i12), which are not read: a report that these alone would bar is accepted.
+// (2·i11 - 1, i12) and (2·i11 + 1, i12), which are not read: a report is not refused where these alone would bar it.
 ghost use mathlib.Core.Path.{_≡_};
 ghost use Rattle.ground.specs.Cases.{_⇒_∣_};
 ghost use Rattle.settings.specs.Settings.{isSetting, maskBytes};
@@ -41,15 +41,15 @@ ghost use Rattle.plan.specs.Answer.{PhasesLeft, WeightsLeft};
 ghost use Rattle.single.specs.Single.{single};
 ghost use Rattle.aspenflick.specs.Version.{version};
 
-// The version of the library. A struct or a parameter that changes makes the first number another, and every function is
-// linked by a name that ends with it: a program that was compiled with a header of another major number does not link.
+// The version of the library. A struct, a parameter or a constant that changes makes the first number another, and every
+// function is linked by a name that ends with it: a program compiled with a header of another major number does not link.
 pub const VERSION_MAJOR: u32 = 1;
 
 pub const VERSION_MINOR: u32 = 0;
 
 pub const VERSION_PATCH: u32 = 0;
 
-// The largest sizes: ports, layers, entries of `out` for phases and for weights, bytes of `beams`.
+// The largest sizes: ports, layers, numbers in `out` for phases and for weights, bytes of `beams`.
 pub const MOST_PORTS: u32 = 32;
 
 pub const MOST_LAYERS: u32 = 8;
