@@ -47,6 +47,23 @@ rules-passed b q n = record {
       sym (own-rule b q k (p .0)) ∙ n .at k (p .1);
 }
 
+-- ---- a report that no refusal applies to is in range, and there is room
+
+module _ {R : Type 0} (b : Codebook R) {InRange : R → Type 0} (lawful : Lawful b InRange)
+    (r : R) (mask : List ℕ) (ranks room : ℕ) (z : refusal b (asked r mask ranks room) ≡ 0) where
+  pub accepted-none : None (test b (asked r mask ranks room)) (b .order)
+  unfolding refusal
+  accepted-none = first-none _ (b .order) (lawful .order-numbered) z
+
+  pub accepted-in-range : InRange r
+  accepted-in-range = lawful .in-range r .0 (rules-passed b (asked r mask ranks room) accepted-none)
+
+  pub accepted-fits : b .plan r .v * b .plan r .ports ≤ room
+  unfolding test
+  accepted-fits = ltb-false room (b .plan r .v * b .plan r .ports) (accepted-none .at 11 (lawful .last-two .1))
+
+-- ---- a call that is accepted
+
 module _ {R : Type 0} (b : Codebook R) {InRange : R → Type 0} (lawful : Lawful b InRange)
     (r : R) (mask : List ℕ) (ranks : ℕ) where
   abbrev P : ℕ
@@ -57,12 +74,14 @@ module _ {R : Type 0} (b : Codebook R) {InRange : R → Type 0} (lawful : Lawful
 
   module _ (room : ℕ) {A : Type 0} {answer lent : List A} {given : Record} {left : List A}
       (call : Called b r mask ranks room answer lent given left) (e : given .refusal ≡ 0) where
+    zero : refusal b (asked r mask ranks room) ≡ 0
+    zero = sym (number-given refl call) ∙ e
+
     pub none-of : None (test b (asked r mask ranks room)) (b .order)
-    unfolding refusal
-    none-of = first-none _ (b .order) (lawful .order-numbered) (sym (number-given refl call) ∙ e)
+    none-of = accepted-none b lawful r mask ranks room zero
 
     pub in-range : InRange r
-    in-range = lawful .in-range r .0 (rules-passed b (asked r mask ranks room) none-of)
+    in-range = accepted-in-range b lawful r mask ranks room zero
 
     pub sound : Sound (b .plan r)
     sound = lawful .sound r in-range
@@ -71,8 +90,7 @@ module _ {R : Type 0} (b : Codebook R) {InRange : R → Type 0} (lawful : Lawful
     entries = length-matrix (b .plan r) sound
 
     pub fits : v * P ≤ room
-    unfolding test
-    fits = ltb-false room (v * P) (none-of .at 11 (lawful .last-two .1))
+    fits = accepted-fits b lawful r mask ranks room zero
 
     -- every bit that is read is one
     pub read-one : (k : ℕ) → T (among k (b .bitsRead r)) → bit mask k ≡ 1

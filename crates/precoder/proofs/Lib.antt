@@ -1,6 +1,4 @@
--- Laws that the proofs share, the demands, and the worked reports.
-pub mod Planned
-pub mod Judged
+-- The demands, the worked reports, and that every call has one outcome.
 pub mod Unique
 pub mod Demands
 pub mod Worked

@@ -2,4 +2,6 @@
 pub mod Written
 pub mod Weighed
 pub mod Rounded
+pub mod Planned
+pub mod Judged
 pub mod Unique

@@ -102,8 +102,8 @@ fn choose_many(r: Report, s: Sizes, x: Beam, a: Beam) -> Beams
         let c = moved_by(r, s, x, rows::k_third(r.n2));
         return said(r, s, false, 3, a, b, c, Beam { l: 0, m: 0 });
     }
-    let c = moved_by(r, s, x, rows::k_at(r.n2, 2, 4));
-    let d = moved_by(r, s, x, rows::k_at(r.n2, 3, 4));
+    let c = moved_by(r, s, x, settings::k_at(r.n2, 2, 4));
+    let d = moved_by(r, s, x, settings::k_at(r.n2, 3, 4));
     said(r, s, false, 4, a, b, c, d)
 }
 

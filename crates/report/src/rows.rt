@@ -11,19 +11,6 @@ ghost use Rattle.settings.specs.Ranges.{beam, kRows};
 ghost use Rattle.report.specs.Rules.{InRange};
 ghost use Rattle.report.specs.Beams.{isHalf};
 
-// The step at place j of (0,0), (1,0), (2,0), .. for N2 = 1, and else of (0,0), (1,0), (0,1), (1,1), with (2,0) at `last`.
-pub fn k_at(n2: u32, j: u32, last: u32) -> Beam
-    ensures { λ k. ⌜ k ≡ (ltb 1 n2 ⇒ (eqb j last ⇒ beam 2 0 ∣ beam (j % 2) (j / 2)) ∣ beam j 0) ⌝ }
-{
-    if n2 <= 1 {
-        return Beam { l: j, m: 0 };
-    }
-    if j == last {
-        return Beam { l: 2, m: 0 };
-    }
-    Beam { l: j % 2, m: j / 2 }
-}
-
 // The step of B'' at v = 5 and 6.
 pub fn k_third(n2: u32) -> Beam
     ensures { λ k. ⌜ k ≡ (ltb 1 n2 ⇒ beam 1 1 ∣ beam 2 0) ⌝ }
@@ -41,9 +28,9 @@ pub fn k_row(r: Report) -> Beam
 {
     if r.v == 2 {
         if r.n1 == r.n2 {
-            return k_at(r.n2, r.i13, 4);
+            return settings::k_at(r.n2, r.i13, 4);
         }
-        return k_at(r.n2, r.i13, 3);
+        return settings::k_at(r.n2, r.i13, 3);
     }
-    k_at(r.n2, r.i13 + 1, 4)
+    settings::k_at(r.n2, r.i13 + 1, 4)
 }

@@ -5,8 +5,10 @@ ghost use Rattle.ground.specs.Cases.{_⇒_∣_};
 ghost use Rattle.settings.specs.Settings.{isSetting, down, maskBytes, sizesOf};
 ghost use Rattle.settings.specs.Ranges.{rangesOf};
 
+mod rows;
 mod values;
 
+pub use rows::k_at;
 pub use values::is_half_length;
 pub use values::is_mode_two;
 
@@ -68,8 +70,9 @@ fn beams_down(n2: u32) -> u32
     n2
 }
 
-// What follows from a setting, and zeros for a pair that is none. (1,1) is the one setting with N1 = 1.
-fn sizes_of(n1: u32, n2: u32) -> Sizes
+// What follows from a setting, and zeros for a pair that is none. (1,1) is the one setting with N1 = 1. (2,1) has 4 ports, 8
+// beams across, 1 down and 1 byte.
+pub fn sizes_of(n1: u32, n2: u32) -> Sizes
     ensures { λ s. ⌜ s ≡ sizesOf n1 n2 ⌝ }
 {
     if !is_setting(n1, n2) {

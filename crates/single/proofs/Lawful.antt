@@ -1,4 +1,4 @@
--- The single-panel codebook is lawful, and a report that it does not refuse is in range.
+-- The single-panel codebook is lawful.
 use mathlib.Core.Path.{_≡_}
 use mathlib.Core.Logic.{inl, inr}
 use mathlib.Core.Bool.{true, false, not}
@@ -12,7 +12,6 @@ use borrow.Author.Tests.{eqb-true, eqb-false, not-true}
 use Rattle.ground.specs.Lists.{among}
 use Rattle.ground.specs.First.{numbered, part}
 use Rattle.ground.proofs.Booleans.{either, cond-both}
-use Rattle.ground.proofs.First.{first-none}
 use Rattle.ground.proofs.Tests.{or-cases}
 use Rattle.ground.proofs.Lists.{among-at}
 use Rattle.settings.specs.declared.Beam.{Beam}
@@ -26,12 +25,10 @@ use Rattle.report.proofs.InRange.{in-range, in-range-none, two-ports-i2}
 use Rattle.report.proofs.Offsets.{length-beams}
 use Rattle.report.proofs.Reached.{Reached, beams-within}
 use Rattle.plan.specs.Plan.{layerAt}
-use Rattle.plan.specs.Answer.{asked, test, refusal}
 use Rattle.plan.specs.Lawful.{Lawful}
-use Rattle.plan.proofs.Calls.{rules-passed}
 use Rattle.single.specs.Plan.{plan}
 use Rattle.single.specs.Masks.{beamBit, twoPortBit, bitsRead}
-use Rattle.single.specs.Single.{order, single}
+use Rattle.single.specs.Single.{single}
 use Rattle.single.proofs.Layers.{placeAt, layer-is, place-within}
 use Rattle.single.proofs.Sound.{plan-sound}
 
@@ -82,10 +79,3 @@ single-lawful = record {
   within = within;
   beams-read = beams-read;
 }
-
-pub accepted-in-range : (r : Report) (mask : List ℕ) (ranks room : ℕ) → refusal single (asked r mask ranks room) ≡ 0
-    → InRange r
-unfolding refusal
-accepted-in-range r mask ranks room e =
-    let q = asked r mask ranks room in
-    single-lawful .in-range r .0 (rules-passed single q (first-none (test single q) order (single-lawful .order-numbered) e))

@@ -2,20 +2,24 @@
 use mathlib.Core.Path.{refl}
 use borrow.Author.Needs.{needs}
 use borrow.Author.Tests.{eqb-true}
-use Rattle.precoder.proofs.Judged.{refused-answers, ports-some, weights-answer}
+use Rattle.render.proofs.Judged as judged
+use Rattle.single.specs.Single.{single}
+use Rattle.single.specs.Drawing.{drawingOf}
+use Rattle.single.proofs.Lawful.{single-lawful}
+use Rattle.single.proofs.Drawn.{drawing-draws}
 use Rattle.precoder.proofs.weights.Statement.{statement}
 use Rattle.precoder.proofs.weights.Tie as tie
 
 returns : tie.Need-returns
-returns c = refused-answers _ _ _ _ (c .before .before .before .judge .ensures) _ _ (c .before .if1 .taken)
+returns c = judged.refused-answers single single-lawful drawingOf drawing-draws _ _ _ _ (c .before .before .before .judge .ensures) _ _ (c .before .if1 .taken)
 
 rem-weights : tie.Need-rem-weights
-rem-weights c = ports-some _ _ _ _ (c .before .before .before .judge .ensures) (c .before .if1 .left)
+rem-weights c = judged.ports-some single single-lawful drawingOf drawing-draws _ _ _ _ (c .before .before .before .judge .ensures) (c .before .if1 .left)
 
 returns-2 : tie.Need-returns-2
 returns-2 c =
     let e = c .before .before .before .before .before in
-    weights-answer _ _ _ _ (e .before .before .judge .ensures) (e .if1 .left) _ (eqb-true _ 0) refl
+    judged.weights-answer single single-lawful drawingOf drawing-draws _ _ _ _ (e .before .before .judge .ensures) (e .if1 .left) _ (eqb-true _ 0) refl
     (c .before .before .weights .ensures)
 
 pub weights-spec : {M : Type 1} → statement M

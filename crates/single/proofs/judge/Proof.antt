@@ -6,9 +6,10 @@ use Rattle.report.specs.Rules.{InRange}
 use Rattle.report.proofs.InRange.{in-range-zero}
 use Rattle.plan.specs.Answer.{asked, refusal}
 use Rattle.plan.proofs.Answers.{refused-judged}
+use Rattle.plan.proofs.Calls.{accepted-in-range}
 use Rattle.masks.proofs.Refused.{admitted-refusal}
 use Rattle.single.specs.Single.{indices, single}
-use Rattle.single.proofs.Lawful.{accepted-in-range}
+use Rattle.single.proofs.Lawful.{single-lawful}
 use Rattle.single.proofs.Given.{in-range-said, ports-are}
 use Rattle.single.proofs.judge.Statement.{statement}
 use Rattle.single.proofs.judge.Tie as tie
@@ -28,7 +29,7 @@ number c =
 in-range : (c : tie.Else1) → InRange (start (c .before) .args .r)
 in-range c =
     let a = start (c .before) .args in
-    accepted-in-range (a .r) (now (a .mask)) (a .ranks) (a .room) (sym (number (c .before)) ∙ c .if1 .left)
+    accepted-in-range single single-lawful (a .r) (now (a .mask)) (a .ranks) (a .room) (sym (number (c .before)) ∙ c .if1 .left)
 
 returns : tie.Need-returns
 returns c =

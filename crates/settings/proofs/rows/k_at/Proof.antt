@@ -1,7 +1,7 @@
 -- `rows::k_at` meets its contract: its tests are those of the contract.
 use borrow.Author.Tests.{eq-eqb, ne-eqb, lt-ltb, le-ltb}
-use Rattle.report.proofs.rows.k_at.Statement.{statement}
-use Rattle.report.proofs.rows.k_at.Tie as tie
+use Rattle.settings.proofs.rows.k_at.Statement.{statement}
+use Rattle.settings.proofs.rows.k_at.Tie as tie
 
 returns : tie.Need-returns
 returns c = rw (le-ltb 1 _ (c .if1 .taken))

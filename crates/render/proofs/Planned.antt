@@ -23,8 +23,21 @@ use Rattle.plan.specs.Drawing.{entries, height, drawable, layersIn, Draws}
 use Rattle.plan.proofs.Matrix.{length-matrix}
 use Rattle.writer.proofs.Drawn.{drawn-matrix, sizes-drawable}
 use Rattle.writer.proofs.Room.{layers-drawn}
 use Rattle.render.specs.Rendered.{fitting, weightsIn}
 use Rattle.render.proofs.Rounded.{weighed-same, whole-parts}
+
+-- no beam of a sound plan is without entries
+module _ (p : Plan) (sound : Sound p) where
+  rows-some : 1 ≤ p .block .n1
+  rows-some = let c = p .block in left-pos (c .n1) _ (sym (mul-assoc (c .n1) (c .o1) _) ∙ sound .whole .rows)
+
+  columns-some : 1 ≤ p .block .n2
+  columns-some = let c = p .block in left-pos (c .n2) _ (sym (mul-assoc (c .n2) (c .o2) _) ∙ sound .whole .columns)
+
+  pub ports-some : 1 ≤ p .ports
+  ports-some =
+      let block = mul-le-mul rows-some columns-some in
+      omega (arith, sound .all, mul-le-mul (sound .two) block)
 
 module _ (p : Plan) (s : Drawing) (sound : Sound p) (draws : Draws p s) where
   -- a column has an entry for each port
@@ -45,7 +58,7 @@ module _ (p : Plan) (s : Drawing) (sound : Sound p) (draws : Draws p s) where
   layers-are : (room : ℕ) → p .v * p .ports + 16 ≤ room → layersIn s room ≡ matrix p
   layers-are room h =
       let c = p .block in
-      let columns = left-pos (c .n2) _ (sym (mul-assoc (c .n2) (c .o2) _) ∙ sound .whole .columns) in
+      let columns = columns-some p sound in
       let block : entries s ≡ c .n1 * c .n2 = rw (draws .rows, draws .columns) in
       let two = mul-le-mul-right (c .n1 * c .n2) (sound .two) in
       let fits : s .v * height s + 16 ≤ room = rw (draws .v, height-is) h in
