@@ -1,17 +1,16 @@
 -- What a call gives and leaves, by its contract, of any lawful codebook: the layers and the weights in the buffer.
-use mathlib.Core.Path.{_≡_, refl, sym, ap, _∙_, subst}
-use mathlib.Core.Bool.{false}
+use mathlib.Core.Path.{_≡_, refl, sym, ap, _∙_}
 use mathlib.Core.List.{List, _++_, map}
 use Prim.Native.Nat.{ℕ, _*_, _/_, _%_, _<_, _≤_}
 use native.Mathlib.Omega.{arith}
-use lib.Dec.{T, eqb}
+use lib.Dec.{T}
 use lib.IntN.{ℤ}
 use lib.ListN.{length, drop, getD, length-map, List·getD-append}
-use borrow.Author.Tests.{ltb-false, eqb-false, ne-eqb}
+use borrow.Author.Tests.{eqb-false}
 use Rattle.ground.specs.Lists.{among}
-use Rattle.ground.specs.First.{part, None}
+use Rattle.ground.specs.First.{None}
 use Rattle.ground.proofs.Lists.{map-at, drop-map, take-map}
-use Rattle.ground.proofs.First.{some-none, first-none, among-part}
+use Rattle.ground.proofs.First.{some-none}
 use Rattle.weight.specs.declared.Weight.{Weight}
 use Rattle.weight.specs.Table.{noWeight, weight, pairs}
 use Rattle.weight.specs.Products.{power, Within, fullPower, powerBelow, powerAbove, portPower}
@@ -21,48 +20,13 @@ use Rattle.plan.specs.declared.Record.{Record}
 use Rattle.plan.specs.Plan.{layerAt, columnOf, matrix, layerIn}
 use Rattle.plan.specs.Sound.{Sound}
 use Rattle.plan.specs.Masks.{bitOf, bit, isZero, barred}
-use Rattle.plan.specs.Answer.{Request, Codebook, asked, own, early, test, refusal, Called, PhasesLeft, weightsOf}
+use Rattle.plan.specs.Answer.{Codebook, asked, test, refusal, Called, PhasesLeft, weightsOf}
 use Rattle.plan.specs.Answer.{WeightsLeft}
 use Rattle.plan.specs.Lawful.{Lawful}
 use Rattle.plan.proofs.Layers.{layer-before}
 use Rattle.plan.proofs.Matrix.{length-matrix, matrix-layer}
 use Rattle.plan.proofs.Answers.{number-given, as-accepted}
-
--- ---- any call
-
--- at a number that is not shared the test is the rule
-own-rule : {R : Type 0} (b : Codebook R) (q : Request R) (k : ℕ) → T (own k) → test b q k ≡ b .rule (q .report) k
-unfolding test early
-own-rule b q k t = rw (off 10 (λ z. z), off 11 (λ z. z), off 3 (λ z. z), off 5 (λ z. z))
-  where
-    off : (n : ℕ) → (T (own n) → ⊥) → eqb k n ≡ false
-    off n h = ne-eqb k n (λ e. h (subst (λ (j : ℕ). T (own j)) e t))
-
--- where no test holds, no rule does
-pub rules-passed : {R : Type 0} (b : Codebook R) (q : Request R) → None (test b q) (b .order)
-    → None (b .rule (q .report)) (part own (b .order))
-rules-passed b q n = record {
-  at = λ k t.
-      let p = among-part own (b .order) k t in
-      sym (own-rule b q k (p .0)) ∙ n .at k (p .1);
-}
-
--- ---- a report that no refusal applies to is in range, and there is room
-
-module _ {R : Type 0} (b : Codebook R) {InRange : R → Type 0} (lawful : Lawful b InRange)
-    (r : R) (mask : List ℕ) (ranks room : ℕ) (z : refusal b (asked r mask ranks room) ≡ 0) where
-  pub accepted-none : None (test b (asked r mask ranks room)) (b .order)
-  unfolding refusal
-  accepted-none = first-none _ (b .order) (lawful .order-numbered) z
-
-  pub accepted-in-range : InRange r
-  accepted-in-range = lawful .in-range r .0 (rules-passed b (asked r mask ranks room) accepted-none)
-
-  pub accepted-fits : b .plan r .v * b .plan r .ports ≤ room
-  unfolding test
-  accepted-fits = ltb-false room (b .plan r .v * b .plan r .ports) (accepted-none .at 11 (lawful .last-two .1))
-
--- ---- a call that is accepted
+use Rattle.plan.proofs.Accepted.{accepted-none, accepted-in-range, accepted-fits}
 
 module _ {R : Type 0} (b : Codebook R) {InRange : R → Type 0} (lawful : Lawful b InRange)
     (r : R) (mask : List ℕ) (ranks : ℕ) where

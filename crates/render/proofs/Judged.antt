@@ -18,7 +18,7 @@ use Rattle.plan.specs.Answer.{Codebook, planned, asked, refusal, Answers, weigh
 use Rattle.plan.specs.Lawful.{Lawful}
 use Rattle.plan.specs.Drawing.{Draws}
 use Rattle.plan.proofs.Answers as answers
-use Rattle.plan.proofs.Calls.{accepted-in-range, accepted-fits}
+use Rattle.plan.proofs.Accepted.{accepted-in-range, accepted-fits}
 use Rattle.render.specs.Rendered.{fitting, weightsIn}
 use Rattle.render.proofs.Planned as written
 

@@ -18,6 +18,7 @@ use Rattle.report.specs.declared.Report.{Report}
 use Rattle.report.specs.Rules.{InRange}
 use Rattle.report.specs.Beams.{isHalf, offsets}
 use Rattle.report.proofs.InRange.{v-few, v-fits}
+use Rattle.plan.proofs.Told.{twoBeams}
 use Rattle.single.specs.Columns.{Added, o, ½, f, f+½, Bracket, byRank, place}
 use Rattle.single.proofs.Layers.{bracket}
 
@@ -74,7 +75,7 @@ opposite y y′ = Bool·beq (takesF y) (takesF y′) && halfAgree (second y) (se
 
 -- the beams k and k′ steps of (O1,O2) from B are two, not one
 abbrev pub distinct : ℕ → ℕ → Beam → Beam → Bool
-distinct n1 n2 k k′ = not (eqb (k .l % n1) (k′ .l % n1)) || not (eqb (k .m % n2) (k′ .m % n2))
+distinct n1 n2 k k′ = twoBeams n1 n2 (k .l) (k .m) (k′ .l) (k′ .m)
 
 -- two brackets, with the offsets ks of the beams, are told apart by the one or the other
 abbrev pub toldBy : ℕ → ℕ → List Beam → Bracket → Bracket → Bool

@@ -22,13 +22,14 @@ use Rattle.report.specs.Beams.{isHalf, beams}
 use Rattle.report.proofs.Offsets.{offsets-few}
 use Rattle.report.proofs.Reached.{beams-within, four-at}
 use Rattle.plan.specs.Plan.{layerAt, columnOf}
-use Rattle.plan.specs.Drawing.{placeOf, takes, coAt, coRow, stepX, stepY, beamAt, columnAt, Draws}
+use Rattle.plan.specs.Drawing.{placeOf, takes, coAt, coRow, beamAt, columnAt, Draws}
+use Rattle.plan.proofs.Drawn.{beam-drawn}
 use Rattle.single.specs.Columns.{Added, o, ½, f, f+½, byRank, place, phaseOf, quarters}
 use Rattle.single.specs.Plan.{fOf, tOf, blockOf, plan}
 use Rattle.single.specs.Drawing.{codesOf, halfCodes, stepOf, drawingOf}
 use Rattle.single.proofs.Layers.{halved, bracket, at-rank, placeAt, addedTo, layer-is, place-within}
 use Rattle.single.proofs.Apart.{takesF, takesHalf}
-use Rattle.single.proofs.Sound.{whole-steps, same-beams, few-blocks}
+use Rattle.single.proofs.Sound.{same-beams, few-blocks, plan-sound}
 
 -- ---- codes
 
@@ -56,33 +57,14 @@ half-added fn t (suc (suc (suc (suc j)))) h = absurd (omega arith)
 
 -- ---- beams
 
--- a step of one of n beams is below a turn
-below : (a n : ℕ) → n * (turn / n) ≡ turn → a < n → a * (turn / n) < turn
-below a n e h = omega (arith, mul-le-mul-right (turn / n) h, right-pos n (turn / n) e)
-
-step-x : (x y : ℕ) → x < turn → stepX (x + 256 * y) ≡ x
-step-x x y h = omega arith
-
-step-y : (x y : ℕ) → x < turn → y < turn → stepY (x + 256 * y) ≡ y
-step-y x y h k = omega arith
-
 -- the beam that is drawn is that of the block's setting
-beam-drawn : (r : Report) → InRange r → (i : ℕ) → i < 4 → let x = getD (beams r) i (beam 0 0) in
+beam-is : (r : Report) → InRange r → (i : ℕ) → i < 4 → let x = getD (beams r) i (beam 0 0) in
     beamAt (drawingOf r) i ≡ beamOf (blockOf r) (x .l) (x .m)
-unfolding beamAt drawingOf beamOf step
-beam-drawn r h i few =
+unfolding drawingOf
+beam-is r h i few =
     let w = beams-within r (h .setting) i in
-    let whole = whole-steps (r .n1) (r .n2) (h .setting) in
-    let x = below _ (across (r .n1)) (whole .0) (w .l) in
-    let y = below _ (down (r .n2)) (whole .1) (w .m) in
-    rw (
-      four-at (stepOf r) (beams r) i few,
-      step-x _ _ x,
-      step-y _ _ x y,
-      same-beams r h,
-      mod-eq-of-lt (w .l),
-      mod-eq-of-lt (w .m),
-    )
+    beam-drawn (drawingOf r) (blockOf r) (plan-sound r h .whole) i _ _ (rw (same-beams r h) (w .l)) (w .m) refl refl
+    (four-at (stepOf r) (beams r) i few ∙ rw (same-beams r h))
 
 -- ---- layers
 
@@ -124,7 +106,7 @@ module _ (r : Report) (h : InRange r) (j : ℕ) (k : j < r .v) where
   column-drawn =
       let few : placeAt r j < 4 = omega (arith, place-within r h j k, offsets-few r) in
       rw (layer-is r h j k)
-      (ap (column _) (ap (beamAt (drawingOf r)) code-place ∙ beam-drawn r h (placeAt r j) few)
+      (ap (column _) (ap (beamAt (drawingOf r)) code-place ∙ beam-is r h (placeAt r j) few)
       ∙ column-same _ (addedTo r j) _ code-added)
 
 pub drawing-draws : (r : Report) → InRange r → Draws (plan r) (drawingOf r)

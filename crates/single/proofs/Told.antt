@@ -26,6 +26,7 @@ use Rattle.report.specs.Rules.{InRange}
 use Rattle.report.specs.Beams.{isHalf, base, offsets, moved, beams}
 use Rattle.plan.specs.Plan.{layerAt}
 use Rattle.plan.specs.Sound.{StepsFrom, Told, by-co-phases, by-beams}
+use Rattle.plan.proofs.Told.{two-beams}
 use Rattle.single.specs.Columns.{Added, o, ½, f, f+½, place, phaseOf, quarters}
 use Rattle.single.specs.Plan.{fOf, tOf, withBeam, whole, blockOf, plan}
 use Rattle.single.proofs.Layers.{halved, bracket, halves, layer-is, place-within}
@@ -124,13 +125,9 @@ module _ (r : Report) (h : InRange r) (j k : ℕ) (hj : j < r .v) (hk : k < r .v
             by-beams (base r .l) (base r .m) (a .l) (a .m) (b .l) (b .m)
             (whole-moved r (place (x .beam)) _ (rw e at (place-within r h j hj)))
             (whole-moved r (place (y .beam)) _ (rw e at (place-within r h k hk)))
-            (⊎-map (differ _ _) (differ _ _)
-            (or-cases (not (eqb (a .l % r .n1) (b .l % r .n1))) (not (eqb (a .m % r .n2) (b .m % r .n2))) t))
+            (two-beams (setting r) (a .l) (a .m) (b .l) (b .m) t)
             (⊎-map (λ d. d) (λ d. (d, coarse-co r (x .added) (y .added))) (divided (setting r) (h .setting)))
       ]
-    where
-      differ : (m n : ℕ) → T (not (eqb m n)) → m ≢ n
-      differ m n t e = T-not (eqb m n) t (eq→eqb m n e)
 
   pub told : Told (blockOf r) (layerAt (plan r) j) (layerAt (plan r) k)
   unfolding whole

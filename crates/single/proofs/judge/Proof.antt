@@ -6,7 +6,7 @@ use Rattle.report.specs.Rules.{InRange}
 use Rattle.report.proofs.InRange.{in-range-zero}
 use Rattle.plan.specs.Answer.{asked, refusal}
 use Rattle.plan.proofs.Answers.{refused-judged}
-use Rattle.plan.proofs.Calls.{accepted-in-range}
+use Rattle.plan.proofs.Accepted.{accepted-in-range}
 use Rattle.masks.proofs.Refused.{admitted-refusal}
 use Rattle.single.specs.Single.{indices, single}
 use Rattle.single.proofs.Lawful.{single-lawful}

@@ -1,0 +1,76 @@
+-- `judge` meets its contract: the shared refusals among the report's own are the codebook's.
+use mathlib.Core.Path.{_≡_, sym, _∙_}
+use native.Mathlib.Omega.{arith}
+use borrow.Author.Needs.{needs}
+use denote.Ref.{now}
+use Rattle.plan.specs.Answer.{asked, refusal}
+use Rattle.plan.proofs.Answers.{refused-judged}
+use Rattle.plan.proofs.Accepted.{accepted-in-range}
+use Rattle.masks.proofs.Refused.{admitted-refusal}
+use Rattle.panels.specs.Rules.{InRange}
+use Rattle.panels.specs.Panels.{indices, panels}
+use Rattle.panels.proofs.InRange.{in-range-zero}
+use Rattle.panels.proofs.Lawful.{panels-lawful}
+use Rattle.panels.proofs.Asked.{ports-are, ports-few}
+use Rattle.panels.proofs.judge.Statement.{statement}
+use Rattle.panels.proofs.judge.Tie as tie
+
+abbrev start : tie.After-admit → tie.Start
+start c = c .before .before .before .before
+
+-- the number that is given is the codebook's refusal
+number : (c : tie.After-admit) → let a = start c .args in
+    c .admit .result ≡ refusal panels (asked (a .r) (now (a .mask)) (a .ranks) (a .room))
+number c =
+    let a = start c .args in
+    c .admit .ensures
+    ∙ admitted-refusal panels (a .r) (now (a .mask)) (a .ranks) (a .room) indices _ (c .before .needs-of .ensures .0)
+
+module _ (c : tie.Else1) where
+  -- where it is 0 the report is in range
+  in-range : InRange (start (c .before) .args .r)
+  in-range =
+      let a = start (c .before) .args in
+      accepted-in-range panels panels-lawful (a .r) (now (a .mask)) (a .ranks) (a .room) (sym (number (c .before)) ∙ c .if1 .left)
+
+  own-zero : c .before .before .needs-of .result .refusal ≡ 0
+  own-zero = c .before .before .needs-of .ensures .0 .refusal-is ∙ in-range-zero _ in-range
+
+returns : tie.Need-returns
+returns c =
+    c .refuse .ensures ∙ refused-judged _ _ (c .before .before .admit .result) _ (c .before .if1 .taken) (number (c .before .before))
+
+drawing-of-requires : tie.Need-drawing-of-requires
+drawing-of-requires c κs =
+    let needs = c .before .before in
+    (in-range c, needs .before .sizes-of .ensures, needs .needs-of .ensures .1 (own-zero c))
+
+mul-t10 : tie.Need-mul-t10
+mul-t10 c =
+    let e = c .before .before .before in
+    omega (arith, ports-few _ (e .before .before .before .sizes-of .ensures) (in-range e))
+
+returns-2 : tie.Need-returns-2
+returns-2 c =
+    let e = c .before .before .before in
+    let needs = e .before .before in
+    let ports = ports-are _ (needs .before .sizes-of .ensures) (in-range e) in
+    let entries = needs .needs-of .ensures .0 .entries-are (own-zero e) in
+    rw (sym (number (e .before)) ∙ e .if1 .left)
+    (λ i. record {
+      given = record { refusal = 0; ports = ports i; layers = start (e .before) .args .r .v; scale = entries i };
+      drawing = c .before .before .drawing-of .ensures i;
+    })
+
+pub judge-spec : {M : Type 1} → statement M
+judge-spec =
+    tie.close
+    (tie.spec
+    (λ c κs. search needs)
+    (λ c κs. search needs)
+    (λ c κs. search needs)
+    (λ c κs. search needs)
+    returns
+    drawing-of-requires
+    mul-t10
+    returns-2)

@@ -1,0 +1,51 @@
+-- `layers::k_of` meets its contract: by its tests the row is that of the definition.
+use native.Mathlib.Omega.{arith}
+use borrow.Author.Needs.{needs}
+use borrow.Author.Tests.{eq-eqb, ne-eqb}
+use Rattle.panels.proofs.Rows.{Row, rowAt, row-right}
+use Rattle.panels.proofs.layers.k_of.Statement.{statement}
+use Rattle.panels.proofs.layers.k_of.Tie as tie
+
+right : (s : tie.Start) → Row (s .args .r)
+right s = row-right (s .args .r) (s .pre)
+
+returns : tie.Need-returns
+unfolding rowAt
+returns c = rw (eq-eqb _ 1 (c .if1 .taken)) at (right (c .before .before) .given)
+
+returns-2 : tie.Need-returns-2
+unfolding rowAt
+returns-2 c =
+    let two = c .before .before .before in
+    rw (c .k-at .ensures)
+    (rw (ne-eqb _ 1 (two .before .before .if1 .left), eq-eqb _ 2 (two .if2 .taken), eq-eqb _ _ (c .before .if3 .taken))
+    at (right (two .before .before .before .before) .given))
+
+returns-3 : tie.Need-returns-3
+unfolding rowAt
+returns-3 c =
+    let two = c .before .before .before in
+    rw (c .k-at2 .ensures)
+    (rw (ne-eqb _ 1 (two .before .before .if1 .left), eq-eqb _ 2 (two .if2 .taken), ne-eqb _ _ (c .before .if3 .left))
+    at (right (two .before .before .before .before) .given))
+
+returns-4 : tie.Need-returns-4
+unfolding rowAt
+returns-4 c =
+    let more = c .before .before in
+    rw (c .k-at3 .ensures)
+    (rw (ne-eqb _ 1 (more .before .before .if1 .left), ne-eqb _ 2 (more .if2 .left))
+    at (right (more .before .before .before .before) .given))
+
+pub k-of-spec : {M : Type 1} → statement M
+k-of-spec =
+    tie.close
+    (tie.spec
+    returns
+    (λ c κs. search needs)
+    returns-2
+    (λ c κs. search needs)
+    returns-3
+    (λ c. omega (arith, right (c .before .before .before .before .before) .few))
+    (λ c κs. search needs)
+    returns-4)

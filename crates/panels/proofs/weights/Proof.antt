@@ -1,0 +1,26 @@
+-- `weights` meets its contract: a refused report gives its number; of any other the weights of its layers are stored.
+use mathlib.Core.Path.{refl}
+use borrow.Author.Needs.{needs}
+use borrow.Author.Tests.{eqb-true}
+use Rattle.render.proofs.Judged as judged
+use Rattle.panels.specs.Panels.{panels}
+use Rattle.panels.specs.Drawing.{drawingOf}
+use Rattle.panels.proofs.Lawful.{panels-lawful}
+use Rattle.panels.proofs.Drawn.{drawing-draws}
+use Rattle.panels.proofs.weights.Statement.{statement}
+use Rattle.panels.proofs.weights.Tie as tie
+
+returns : tie.Need-returns
+returns c = judged.refused-answers panels panels-lawful drawingOf drawing-draws _ _ _ _ (c .before .before .before .judge .ensures) _ _ (c .before .if1 .taken)
+
+rem-weights : tie.Need-rem-weights
+rem-weights c = judged.ports-some panels panels-lawful drawingOf drawing-draws _ _ _ _ (c .before .before .before .judge .ensures) (c .before .if1 .left)
+
+returns-2 : tie.Need-returns-2
+returns-2 c =
+    let e = c .before .before .before .before .before in
+    judged.weights-answer panels panels-lawful drawingOf drawing-draws _ _ _ _ (e .before .before .judge .ensures) (e .if1 .left) _ (eqb-true _ 0) refl
+    (c .before .before .weights .ensures)
+
+pub weights-spec : {M : Type 1} → statement M
+weights-spec = tie.close (tie.spec (λ c κs. search needs) returns rem-weights (λ c κs. search needs) (λ c. search needs) returns-2)

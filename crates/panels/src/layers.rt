@@ -1,0 +1,194 @@
+// The beams and co-phases of a report: what it asks of the masks, and what is to be written of it.
+use crate::PanelReport;
+use crate::rules;
+use masks::Needs;
+use plan::Drawing;
+use settings::Beam;
+use settings::Sizes;
+use turn::Part;
+use turn::Phase;
+ghost use mathlib.Core.Path.{_≡_};
+ghost use mathlib.Core.List.{[], _∷_};
+ghost use Prim.Native.Nat.{_+_, _*_, _/_, _≤_};
+ghost use lib.Dec.{eqb};
+ghost use Rattle.ground.specs.Cases.{_⇒_∣_};
+ghost use Rattle.turn.specs.Phase.{turn, quarter, phase};
+ghost use Rattle.settings.specs.Settings.{sizesOf};
+ghost use Rattle.masks.specs.Asks.{Asks};
+ghost use Rattle.panels.specs.Rules.{InRange};
+ghost use Rattle.panels.specs.Plan.{B′, kOf, reached};
+ghost use Rattle.panels.specs.Panels.{indices, panels};
+ghost use Rattle.panels.specs.Drawing.{HasBeams, codesOf, quartersOf, inParts, drawingOf};
+
+// The codes of one to four layers: 512 for B', 256 for the co-phases, and 170 where half a turn is added to the second
+// polarisation of every panel.
+const ONE: [u16; 8] = [256, 0, 0, 0, 0, 0, 0, 0]; // W1 B
+
+const TWO: [u16; 8] = [256, 938, 0, 0, 0, 0, 0, 0]; // W1 B, W2 B'
+
+const THREE: [u16; 8] = [256, 768, 426, 0, 0, 0, 0, 0]; // W1 B, W1 B', W2 B
+
+const FOUR: [u16; 8] = [256, 768, 426, 938, 0, 0, 0, 0]; // W1 B, W1 B', W2 B, W2 B'
+
+// The codes of v layers.
+fn codes_of(v: u32) -> [u16; 8]
+    requires { ⌜ (1 ≤ v) × (v ≤ 4) ⌝ }
+    ensures { λ c. ⌜ c ≡ codesOf v ⌝ }
+{
+    if v == 1 {
+        return ONE;
+    }
+    if v == 2 {
+        return TWO;
+    }
+    if v == 3 {
+        return THREE;
+    }
+    FOUR
+}
+
+// The row of k for i13. Those of v = 3 and 4 stand after (0,0).
+fn k_of(r: PanelReport) -> Beam
+    requires { ⌜ InRange r ⌝ }
+    ensures { λ k. ⌜ k ≡ kOf r ⌝ }
+{
+    if r.v == 1 {
+        return Beam { l: 0, m: 0 };
+    }
+    if r.v == 2 {
+        if r.n1 == r.n2 {
+            return settings::k_at(r.n2, r.i13, 4);
+        }
+        return settings::k_at(r.n2, r.i13, 3);
+    }
+    settings::k_at(r.n2, r.i13 + 1, 4)
+}
+
+// B', reduced. For N2 = 1 there is one m, whatever O2.
+fn second_beam(r: PanelReport, s: Sizes) -> Beam
+    requires { ⌜ InRange r × (s ≡ sizesOf (r .n1) (r .n2)) ⌝ }
+    ensures { λ x. ⌜ x ≡ reached r B′ ⌝ }
+{
+    let k = k_of(r);
+    Beam {
+        l: (r.i11 + 4 * k.l) % s.across,
+        m: (r.i12 + 4 * k.m) % s.down,
+    }
+}
+
+// How many beams v layers have.
+fn beams_of(v: u32) -> u32
+    ensures { λ n. ⌜ n ≡ (eqb v 1 ⇒ 1 ∣ 2) ⌝ }
+{
+    if v == 1 { 1 } else { 2 }
+}
+
+// What the report asks of the masks and the buffer; where it is in range, with B and B'.
+pub fn needs_of(r: PanelReport, s: Sizes) -> Needs
+    requires { ⌜ s ≡ sizesOf (r .n1) (r .n2) ⌝ }
+    ensures { λ x. ⌜ Asks panels r indices x × (x .refusal ≡ 0 → HasBeams r x) ⌝ }
+{
+    let k = rules::refusal(r, s);
+    if k != 0 {
+        return Needs {
+            refusal: k,
+            bytes: s.bytes,
+            v: r.v,
+            entries: 0,
+            count: 0,
+            width: 0,
+            l: [0; 4],
+            m: [0; 4],
+        };
+    }
+    let other = second_beam(r, s);
+    let count = beams_of(r.v);
+    let ports = r.ng * s.ports;
+    let entries = r.v * ports;
+    Needs {
+        refusal: 0,
+        bytes: s.bytes,
+        v: r.v,
+        entries: entries,
+        count: count,
+        width: s.down,
+        l: [r.i11, other.l, 0, 0],
+        m: [r.i12, other.m, 0, 0],
+    }
+}
+
+// n quarters of a turn, in parts.
+fn quarters(n: u32) -> Part
+    ensures { λ x. ⌜ x ≡ phase (n * quarter) ⌝ }
+{
+    let f = Phase::quarters(n);
+    f.parts
+}
+
+// The co-phases of two panels: 0 and f for the first, p and q for the second, in quarters of a turn.
+fn two_panels(f: u32, p: u32, q: u32) -> [Part; 8]
+    ensures { λ c. ⌜ c ≡ inParts (0 ∷ f ∷ p ∷ q ∷ 0 ∷ 0 ∷ 0 ∷ 0 ∷ []) ⌝ }
+{
+    [0, quarters(f), quarters(p), quarters(q), 0, 0, 0, 0]
+}
+
+// Those of four panels: f is added to the second polarisation of each, and p1, p2 and p3 are the panels' own.
+fn four_panels(f: u32, p1: u32, p2: u32, p3: u32) -> [Part; 8]
+    requires { ⌜ (f ≤ 3) × (p1 ≤ 3) × (p2 ≤ 3) × (p3 ≤ 3) ⌝ }
+    ensures { λ c. ⌜ c ≡ inParts (0 ∷ f ∷ p1 ∷ (f + p1) ∷ p2 ∷ (f + p2) ∷ p3 ∷ (f + p3) ∷ []) ⌝ }
+{
+    [
+        0,
+        quarters(f),
+        quarters(p1),
+        quarters(f + p1),
+        quarters(p2),
+        quarters(f + p2),
+        quarters(p3),
+        quarters(f + p3),
+    ]
+}
+
+// The co-phases, panel by panel. In mode 2 a(p) times b(n) is p + n quarters of a turn.
+fn co_of(r: PanelReport) -> [Part; 8]
+    requires { ⌜ InRange r ⌝ }
+    ensures { λ c. ⌜ c ≡ inParts (quartersOf r) ⌝ }
+{
+    let p = r.i14;
+    let n = r.i2;
+    if r.mode == 2 {
+        return two_panels(n[0], p[0] + n[1], p[1] + n[2]);
+    }
+    if r.ng == 2 {
+        return two_panels(n[0], p[0], n[0] + p[0]);
+    }
+    four_panels(n[0], p[0], p[1], p[2])
+}
+
+// The steps of the beam (l,m), x + 256·y.
+fn step_of(l: u32, m: u32, s: Sizes) -> u32
+    requires { ⌜ (l ≤ 255) × (m ≤ 255) × (1 ≤ s .across) × (1 ≤ s .down) ⌝ }
+    ensures { λ x. ⌜ x ≡ l * (turn / s .across) + 256 * (m * (turn / s .down)) ⌝ }
+{
+    l * (turn::TURN as u32 / s.across) + 256 * (m * (turn::TURN as u32 / s.down))
+}
+
+// What is to be written of a report.
+pub fn drawing_of(r: PanelReport, s: Sizes, x: Needs) -> Drawing
+    requires { ⌜ InRange r × (s ≡ sizesOf (r .n1) (r .n2)) × HasBeams r x ⌝ }
+    ensures { λ d. ⌜ d ≡ drawingOf r ⌝ }
+{
+    let l = x.l;
+    let m = x.m;
+    let first = step_of(l[0], m[0], s);
+    let second = step_of(l[1], m[1], s);
+    Drawing {
+        v: r.v,
+        pairs: r.ng,
+        rows: r.n1,
+        columns: r.n2,
+        steps: [first, second, 0, 0],
+        co: co_of(r),
+        codes: codes_of(r.v),
+    }
+}

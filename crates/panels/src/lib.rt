@@ -1,0 +1,79 @@
+// The precoder of a multi-panel report, written into a lent buffer.
+use plan::Judged;
+use plan::Record;
+use turn::Part;
+ghost use mathlib.Core.Path.{_≡_};
+ghost use Rattle.plan.specs.Answer.{planned, asked, refusal, judgedBy, PhasesLeft, WeightsLeft};
+ghost use Rattle.panels.specs.Plan.{plan};
+ghost use Rattle.panels.specs.Panels.{panels};
+ghost use Rattle.panels.specs.Drawing.{drawingOf};
+
+mod layers;
+mod rules;
+
+// A report: the setting (Ng,N1,N2), the codebook mode, the rank v, and the indices. Unused numbers of i14 and i2 are 0.
+#[repr(C)]
+pub struct PanelReport {
+    pub ng: u32,
+    pub n1: u32,
+    pub n2: u32,
+    pub mode: u32,
+    pub v: u32,
+    pub i11: u32,
+    pub i12: u32,
+    pub i13: u32,
+    pub i14: [u32; 3],
+    pub i2: [u32; 3],
+}
+
+// Judges a report by the refusals 1 to 12: the first that applies is given, and otherwise what is to be written. `room` is
+// the number of entries for which the lent buffer has room.
+fn judge(r: PanelReport, mask: &[u8], ranks: u8, room: usize) -> Judged
+    ensures { λ c. ⌜ c ≡ judgedBy (planned (plan r)) (drawingOf r) (refusal panels (asked r (now (mask .entry)) ranks room)) ⌝ }
+{
+    let s = settings::sizes_of(r.n1, r.n2);
+    let x = layers::needs_of(r, s);
+    let k = masks::admit(x, mask, ranks, room);
+    if k != 0 {
+        return plan::refuse(k);
+    }
+    let drawing = layers::drawing_of(r, s, x);
+    Judged {
+        given: Record {
+            refusal: 0,
+            ports: r.ng * s.ports,
+            layers: r.v,
+            scale: x.entries,
+        },
+        drawing: drawing,
+    }
+}
+
+// Writes the phases of a report's precoder, in parts of a turn: layer after layer, each of P entries, panel by panel and
+// the first polarisation of a panel first. Masks are those of one panel, and refusals as for the single panel, with 12 for
+// i14 between 8 and 9. (2,2,1) with mode 1, one layer, i11 = 1, i14 = 1 0 0, i2 = 2 0 0 and the rest 0 gives
+// 0 24 96 120 48 72 144 168.
+pub fn phases(r: PanelReport, mask: &[u8], ranks: u8, out: &mut [Part]) -> Record
+    ensures { λ a. ⌜ PhasesLeft panels r (now (mask .entry)) ranks (now (out .entry)) a (now (out .exit)) ⌝ }
+{
+    let c = judge(r, mask, ranks, out.len());
+    if c.given.refusal != 0 {
+        return c.given;
+    }
+    render::phases(c.drawing, out);
+    c.given
+}
+
+// Writes the weights of a report's precoder: for each entry that `phases` writes, x and then y, the pair of the table at
+// its phase. Masks and refusals are those of `phases`, and 11 asks for 2·v·P numbers. Where P divides 16, all phases are
+// whole 32nds of a turn.
+pub fn weights(r: PanelReport, mask: &[u8], ranks: u8, out: &mut [i16]) -> Record
+    ensures { λ a. ⌜ WeightsLeft panels r (now (mask .entry)) ranks (now (out .entry)) a (now (out .exit)) ⌝ }
+{
+    let c = judge(r, mask, ranks, out.len() / 2);
+    if c.given.refusal != 0 {
+        return c.given;
+    }
+    render::weights(c.drawing, 16 % c.given.ports == 0, out);
+    c.given
+}
