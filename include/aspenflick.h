@@ -1,4 +1,5 @@
-// Aspenflick for C: the precoder of a 5G NR Type I single-panel PMI report (TS 38.214, 5.2.2.2.1), or its refusal.
+// Aspenflick for C: the precoder of a 5G NR Type I PMI report of TS 38.214, single-panel (5.2.2.2.1) or multi-panel
+// (5.2.2.2.2), or its refusal.
 //
 // A call answers any numbers, masks and lengths. It allocates nothing, takes less than 2,048 bytes of stack (measured,
 // not proved) and keeps no state, so several threads may call at once, each with an `out` of its own. A struct goes by
@@ -7,9 +8,9 @@
 // An answer is determined by the report, both masks, the length of `out`, which function is called, and the version of
 // the library: whoever keeps a log of answers keeps these.
 //
-// The settings (n1,n2) are (1,1), called two ports, (2,1), (2,2), (4,1), (3,2), (6,1), (4,2), (8,1), (4,3), (6,2), (12,1),
-// (4,4), (8,2) and (16,1). P is the number of ports, 2*n1*n2. M stands for the beams of the second direction: 1 if n2 = 1
-// and 4*n2 otherwise.
+// One panel: the settings (n1,n2) are (1,1), called two ports, (2,1), (2,2), (4,1), (3,2), (6,1), (4,2), (8,1), (4,3),
+// (6,2), (12,1), (4,4), (8,2) and (16,1). P is the number of ports, 2*n1*n2. M stands for the beams of the second
+// direction: 1 if n2 = 1 and 4*n2 otherwise.
 //
 // How many values each index has, from 0 on. One that the rank or the setting has no use for has one value, so that it
 // must be 0.
@@ -29,10 +30,22 @@
 //     (a) 2 at (2,1)   (b) 1 if n2 = 1   (c) 1 at (2,1), 3 at (4,1) and (2,2), 4 at (6,1) and (3,2)   (d) 8 at (4,1)
 //     (e) 4 at (3,2), (4,2), (6,2) and (8,2)
 //
+// Several panels: the settings (ng,n1,n2) are (2,2,1), (2,4,1), (4,2,1), (2,2,2), (2,8,1), (4,4,1), (2,4,2) and (4,2,2). P is
+// 2*ng*n1*n2; n1, n2 and M are those of one panel. There are one to four layers, and mode 2 is for two panels only. Three
+// numbers of i14 and of i2 are always given, and again one without use must be 0. How many values each has:
+//
+//                 i11     i12     i13       i2 in mode 1    i2 in mode 2
+//     v = 1       4*n1    M       1         4 1 1           4 2 2
+//     v = 2       4*n1    M       4 (a)     2 1 1           2 2 2
+//     v = 3, 4    4*n1    M       (f)       2 1 1           2 2 2
+//
+//     (f) 1 at (2,1), 3 at (4,1) and (2,2), 4 at (8,1) and (4,2)
+//     i14: 4 1 1 with two panels in mode 1, 4 4 1 with two panels in mode 2, 4 4 4 with four panels
+//
 // Bit k of a mask is bit k mod 8, from the lowest, of byte k / 8. A zero bit bars. `ranks` has bit v-1 for v layers.
 // `beams` has 4*n1*M bits, bit l*M + m for the beam (l,m), l modulo 4*n1 and m modulo M. Two ports have one byte: bits 0
-// to 3 for i2 with one layer, bits 4 and 5 for i2 with two. Three and four layers of 16 ports or more have half-length
-// beams, for which one bit is read, that of (2*i11, i12). The standard ties such a beam to two bits more, those of
+// to 3 for i2 with one layer, bits 4 and 5 for i2 with two. Panels have the masks of one panel, and from two layers on
+// two beams. Three and four layers of one panel with 16 ports or more have half-length beams, for which one bit is read, that of (2*i11, i12). The standard ties such a beam to two bits more, those of
 // (2*i11 - 1, i12) and (2*i11 + 1, i12), which are not read: a report is not refused where these alone would bar it.
 //
 // Made from the proved crates by tools/header; not edited by hand.
@@ -45,7 +58,7 @@
 // The version of the library. A struct, a parameter or a constant that changes makes the first number another, and every
 // function is linked by a name that ends with it: a program compiled with a header of another major number does not link.
 #define ASPENFLICK_VERSION_MAJOR 1
-#define ASPENFLICK_VERSION_MINOR 0
+#define ASPENFLICK_VERSION_MINOR 1
 #define ASPENFLICK_VERSION_PATCH 0
 
 // The largest sizes: ports, layers, numbers in `out` for phases and for weights, bytes of `beams`.
@@ -55,17 +68,19 @@
 #define ASPENFLICK_MOST_WEIGHTS 512
 #define ASPENFLICK_MOST_MASK_BYTES 32
 
-// The refusals. The first of them that applies is given; the record's other numbers are then 0 and `out` stays as lent.
+// The refusals, in the order in which they are tried. The first that applies is given; the record's other numbers are then
+// 0 and `out` stays as lent.
 #define ASPENFLICK_ACCEPTED 0         // none applies
-#define ASPENFLICK_NO_SETTING 1       // (n1,n2) is not a setting
-#define ASPENFLICK_NO_MODE 2          // mode is neither 1 nor 2
+#define ASPENFLICK_NO_SETTING 1       // (n1,n2), or (ng,n1,n2), is not a setting
+#define ASPENFLICK_NO_MODE 2          // mode is neither 1 nor 2, or is 2 with four panels
 #define ASPENFLICK_MASK_LENGTH 3      // `beams` has not exactly the bytes needed
-#define ASPENFLICK_NO_RANK 4          // v is 0, above 8 or above P
+#define ASPENFLICK_NO_RANK 4          // v is 0, above 8 or above P; for panels, above 4
 #define ASPENFLICK_RANK_BARRED 5      // bit v-1 of `ranks` is zero
 #define ASPENFLICK_I11_RANGE 6        // i11 is out of range
 #define ASPENFLICK_I12_RANGE 7        // i12 is out of range
 #define ASPENFLICK_I13_RANGE 8        // i13 is out of range
-#define ASPENFLICK_I2_RANGE 9         // i2 is out of range
+#define ASPENFLICK_I14_RANGE 12       // a number of i14 is out of range
+#define ASPENFLICK_I2_RANGE 9         // i2, or a number of it, is out of range
 #define ASPENFLICK_BEAM_BARRED 10     // a bit of `beams` that the report reads is zero
 #define ASPENFLICK_NO_ROOM 11         // `out` is too short: v*P bytes are needed, or 2*v*P numbers for weights
 
@@ -77,6 +92,8 @@
 #define aspenflick_mask_bytes aspenflick_mask_bytes_1
 #define aspenflick_phases aspenflick_phases_1
 #define aspenflick_weights aspenflick_weights_1
+#define aspenflick_panel_phases aspenflick_panel_phases_1
+#define aspenflick_panel_weights aspenflick_panel_weights_1
 
 #ifdef __cplusplus
 extern "C" {
@@ -89,10 +106,13 @@ typedef struct { uint32_t n1, n2, mode, v, i11, i12, i13, i2; } aspenflick_repor
 // precoder is the entries divided by the square root of the scale.
 typedef struct { uint32_t refusal, ports, layers, scale; } aspenflick_record;
 
+// A report: the setting (Ng,N1,N2), the codebook mode, the rank v, and the indices. Unused numbers of i14 and i2 are 0.
+typedef struct { uint32_t ng, n1, n2, mode, v, i11, i12, i13, i14[3], i2[3]; } aspenflick_panel_report;
+
 // The version of the library that is linked: 10000*major + 100*minor + patch, as in ASPENFLICK_VERSION.
 uint32_t aspenflick_version(void);
 
-// How many bytes the beam mask of a setting has; 0 for a pair that is no setting.
+// How many bytes the beam mask of a setting has; 0 for a pair that is no setting. Panels have the mask of one of them.
 uint32_t aspenflick_mask_bytes(uint32_t n1, uint32_t n2);
 
 // Writes the phases of a report's precoder, each 0 to 191 in 1/192 turns: layer after layer, each of P entries, the first
@@ -107,6 +127,17 @@ aspenflick_record aspenflick_phases(aspenflick_report r, const uint8_t *beams, s
 // 0 16384 -11585 11585.
 aspenflick_record aspenflick_weights(aspenflick_report r, const uint8_t *beams, size_t beams_len, uint8_t ranks,
                                      int16_t *out, size_t out_len);
+
+// Writes the phases of a multi-panel report's precoder as `aspenflick_phases` does: layer after layer, each of P entries,
+// panel by panel, the first polarisation of a panel first. (2,2,1) with mode 1, v = 1, i11 = 1, i14 = 1 0 0, i2 = 2 0 0
+// and the rest 0 gives 0 24 96 120 48 72 144 168.
+aspenflick_record aspenflick_panel_phases(aspenflick_panel_report r, const uint8_t *beams, size_t beams_len, uint8_t ranks,
+                                          uint8_t *out, size_t out_len);
+
+// Writes the weights of a multi-panel report's precoder: for each entry that `aspenflick_panel_phases` writes, x and then y,
+// as `aspenflick_weights` does.
+aspenflick_record aspenflick_panel_weights(aspenflick_panel_report r, const uint8_t *beams, size_t beams_len,
+                                           uint8_t ranks, int16_t *out, size_t out_len);
 
 #ifdef __cplusplus
 }

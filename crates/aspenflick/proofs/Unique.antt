@@ -8,6 +8,8 @@ use Rattle.aspenflick.proofs.aspenflick_version_1.Reads as version
 use Rattle.aspenflick.proofs.aspenflick_mask_bytes_1.Reads as mask-bytes
 use Rattle.aspenflick.proofs.aspenflick_phases_1.Reads as phases
 use Rattle.aspenflick.proofs.aspenflick_weights_1.Reads as weights
+use Rattle.aspenflick.proofs.aspenflick_panel_phases_1.Reads as panel-phases
+use Rattle.aspenflick.proofs.aspenflick_panel_weights_1.Reads as panel-weights
 
 pub aspenflick-version-unique : Unique version.Learnt
 aspenflick-version-unique k a r r′ e e′ p q = p ∙ sym q
@@ -20,3 +22,9 @@ aspenflick-phases-unique k a r r′ e e′ = one-answer
 
 pub aspenflick-weights-unique : UniqueLeft weights.Learnt (λ k e. now (e .1 .1 .1 .0))
 aspenflick-weights-unique k a r r′ e e′ = one-answer
+
+pub aspenflick-panel-phases-unique : UniqueLeft panel-phases.Learnt (λ k e. now (e .1 .1 .1 .0))
+aspenflick-panel-phases-unique k a r r′ e e′ = one-answer
+
+pub aspenflick-panel-weights-unique : UniqueLeft panel-weights.Learnt (λ k e. now (e .1 .1 .1 .0))
+aspenflick-panel-weights-unique k a r r′ e e′ = one-answer

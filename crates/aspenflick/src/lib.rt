@@ -1,4 +1,5 @@
-// Aspenflick for C: the precoder of a 5G NR Type I single-panel PMI report (TS 38.214, 5.2.2.2.1), or its refusal.
+// Aspenflick for C: the precoder of a 5G NR Type I PMI report of TS 38.214, single-panel (5.2.2.2.1) or multi-panel
+// (5.2.2.2.2), or its refusal.
 //
 // A call answers any numbers, masks and lengths. It allocates nothing, takes less than 2,048 bytes of stack (measured,
 // not proved) and keeps no state, so several threads may call at once, each with an `out` of its own. A struct goes by
@@ -7,9 +8,9 @@
 // An answer is determined by the report, both masks, the length of `out`, which function is called, and the version of
 // the library: whoever keeps a log of answers keeps these.
 //
-// The settings (n1,n2) are (1,1), called two ports, (2,1), (2,2), (4,1), (3,2), (6,1), (4,2), (8,1), (4,3), (6,2), (12,1),
-// (4,4), (8,2) and (16,1). P is the number of ports, 2·n1·n2. M stands for the beams of the second direction: 1 if n2 = 1
-// and 4·n2 otherwise.
+// One panel: the settings (n1,n2) are (1,1), called two ports, (2,1), (2,2), (4,1), (3,2), (6,1), (4,2), (8,1), (4,3),
+// (6,2), (12,1), (4,4), (8,2) and (16,1). P is the number of ports, 2·n1·n2. M stands for the beams of the second
+// direction: 1 if n2 = 1 and 4·n2 otherwise.
 //
 // How many values each index has, from 0 on. One that the rank or the setting has no use for has one value, so that it
 // must be 0.
@@ -29,23 +30,36 @@
 //     (a) 2 at (2,1)   (b) 1 if n2 = 1   (c) 1 at (2,1), 3 at (4,1) and (2,2), 4 at (6,1) and (3,2)   (d) 8 at (4,1)
 //     (e) 4 at (3,2), (4,2), (6,2) and (8,2)
 //
+// Several panels: the settings (ng,n1,n2) are (2,2,1), (2,4,1), (4,2,1), (2,2,2), (2,8,1), (4,4,1), (2,4,2) and (4,2,2). P is
+// 2·ng·n1·n2; n1, n2 and M are those of one panel. There are one to four layers, and mode 2 is for two panels only. Three
+// numbers of i14 and of i2 are always given, and again one without use must be 0. How many values each has:
+//
+//                 i11     i12     i13       i2 in mode 1    i2 in mode 2
+//     v = 1       4·n1    M       1         4 1 1           4 2 2
+//     v = 2       4·n1    M       4 (a)     2 1 1           2 2 2
+//     v = 3, 4    4·n1    M       (f)       2 1 1           2 2 2
+//
+//     (f) 1 at (2,1), 3 at (4,1) and (2,2), 4 at (8,1) and (4,2)
+//     i14: 4 1 1 with two panels in mode 1, 4 4 1 with two panels in mode 2, 4 4 4 with four panels
+//
 // Bit k of a mask is bit k mod 8, from the lowest, of byte k / 8. A zero bit bars. `ranks` has bit v-1 for v layers.
 // `beams` has 4·n1·M bits, bit l·M + m for the beam (l,m), l modulo 4·n1 and m modulo M. Two ports have one byte: bits 0
-// to 3 for i2 with one layer, bits 4 and 5 for i2 with two. Three and four layers of 16 ports or more have half-length
-// beams, for which one bit is read, that of (2·i11, i12). The standard ties such a beam to two bits more, those of
+// to 3 for i2 with one layer, bits 4 and 5 for i2 with two. Panels have the masks of one panel, and from two layers on
+// two beams. Three and four layers of one panel with 16 ports or more have half-length beams, for which one bit is read, that of (2·i11, i12). The standard ties such a beam to two bits more, those of
 // (2·i11 - 1, i12) and (2·i11 + 1, i12), which are not read: a report is not refused where these alone would bar it.
 ghost use mathlib.Core.Path.{_≡_};
 ghost use Rattle.ground.specs.Cases.{_⇒_∣_};
 ghost use Rattle.settings.specs.Settings.{isSetting, maskBytes};
 ghost use Rattle.plan.specs.Answer.{PhasesLeft, WeightsLeft};
 ghost use Rattle.single.specs.Single.{single};
+ghost use Rattle.panels.specs.Panels.{panels};
 ghost use Rattle.aspenflick.specs.Version.{version};
 
 // The version of the library. A struct, a parameter or a constant that changes makes the first number another, and every
 // function is linked by a name that ends with it: a program compiled with a header of another major number does not link.
 pub const VERSION_MAJOR: u32 = 1;
 
-pub const VERSION_MINOR: u32 = 0;
+pub const VERSION_MINOR: u32 = 1;
 
 pub const VERSION_PATCH: u32 = 0;
 
@@ -60,20 +74,21 @@ pub const MOST_WEIGHTS: u32 = 512;
 
 pub const MOST_MASK_BYTES: u32 = 32;
 
-// The refusals. The first of them that applies is given; the record's other numbers are then 0 and `out` stays as lent.
+// The refusals, in the order in which they are tried. The first that applies is given; the record's other numbers are then
+// 0 and `out` stays as lent.
 // none applies
 pub const ACCEPTED: u32 = 0;
 
-// (n1,n2) is not a setting
+// (n1,n2), or (ng,n1,n2), is not a setting
 pub const NO_SETTING: u32 = 1;
 
-// mode is neither 1 nor 2
+// mode is neither 1 nor 2, or is 2 with four panels
 pub const NO_MODE: u32 = 2;
 
 // `beams` has not exactly the bytes needed
 pub const MASK_LENGTH: u32 = 3;
 
-// v is 0, above 8 or above P
+// v is 0, above 8 or above P; for panels, above 4
 pub const NO_RANK: u32 = 4;
 
 // bit v-1 of `ranks` is zero
@@ -88,7 +103,10 @@ pub const I12_RANGE: u32 = 7;
 // i13 is out of range
 pub const I13_RANGE: u32 = 8;
 
-// i2 is out of range
+// a number of i14 is out of range
+pub const I14_RANGE: u32 = 12;
+
+// i2, or a number of it, is out of range
 pub const I2_RANGE: u32 = 9;
 
 // a bit of `beams` that the report reads is zero
@@ -105,7 +123,7 @@ pub extern "C" fn aspenflick_version_1() -> u32
     10000 * VERSION_MAJOR + 100 * VERSION_MINOR + VERSION_PATCH
 }
 
-// How many bytes the beam mask of a setting has; 0 for a pair that is no setting.
+// How many bytes the beam mask of a setting has; 0 for a pair that is no setting. Panels have the mask of one of them.
 #[no_mangle]
 pub extern "C" fn aspenflick_mask_bytes_1(n1: u32, n2: u32) -> u32
     ensures { λ n. ⌜ n ≡ (isSetting n1 n2 ⇒ maskBytes n1 n2 ∣ 0) ⌝ }
@@ -142,4 +160,33 @@ pub extern "C" fn aspenflick_weights_1(
     ensures { λ a. ⌜ WeightsLeft single r (now (beams .entry)) ranks (now (out .entry)) a (now (out .exit)) ⌝ }
 {
     precoder::weights(r, beams, ranks, out)
+}
+
+// Writes the phases of a multi-panel report's precoder as `aspenflick_phases` does: layer after layer, each of P entries,
+// panel by panel, the first polarisation of a panel first. (2,2,1) with mode 1, v = 1, i11 = 1, i14 = 1 0 0, i2 = 2 0 0
+// and the rest 0 gives 0 24 96 120 48 72 144 168.
+#[no_mangle]
+pub extern "C" fn aspenflick_panel_phases_1(
+    r: panels::PanelReport,
+    beams: &[u8],
+    ranks: u8,
+    out: &mut [turn::Part],
+) -> plan::Record
+    ensures { λ a. ⌜ PhasesLeft panels r (now (beams .entry)) ranks (now (out .entry)) a (now (out .exit)) ⌝ }
+{
+    panels::phases(r, beams, ranks, out)
+}
+
+// Writes the weights of a multi-panel report's precoder: for each entry that `aspenflick_panel_phases` writes, x and then y,
+// as `aspenflick_weights` does.
+#[no_mangle]
+pub extern "C" fn aspenflick_panel_weights_1(
+    r: panels::PanelReport,
+    beams: &[u8],
+    ranks: u8,
+    out: &mut [i16],
+) -> plan::Record
+    ensures { λ a. ⌜ WeightsLeft panels r (now (beams .entry)) ranks (now (out .entry)) a (now (out .exit)) ⌝ }
+{
+    panels::weights(r, beams, ranks, out)
 }
