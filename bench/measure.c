@@ -41,7 +41,7 @@ static __attribute__((naked)) WEIGHTS(empty_weights) { __asm__("ret"); }
 static __attribute__((naked)) PANEL_PHASES(empty_panel_phases) { __asm__("ret"); }
 static __attribute__((naked)) PANEL_WEIGHTS(empty_panel_weights) { __asm__("ret"); }
 
-// Eigen is of the single panel.
+// Eigen has the single panel alone.
 enum { OURS, BASELINE, EIGEN, VERSIONS, EMPTY = VERSIONS };
 static const char *const version_names[] = {"ours", "c", "eigen", "empty"};
 static phases_function *volatile phases_of[] = {aspenflick_phases, baseline_phases, eigen_phases, empty_phases};
@@ -81,7 +81,7 @@ typedef struct {
 
 static union { uint8_t bytes[1024]; int16_t numbers[512]; } buffers[VERSIONS];
 
-static aspenflick_report single(const aspenflick_panel_report *r) {
+static aspenflick_report single_report(const aspenflick_panel_report *r) {
     return (aspenflick_report){r->n1, r->n2, r->mode, r->v, r->i11, r->i12, r->i13, r->i2[0]};
 }
 
@@ -92,8 +92,8 @@ static aspenflick_record call(int version, int function, const request *q, void 
                    : panel_weights_of[version](q->report, q->mask, q->mask_len, q->ranks, out, q->room);
     }
     return function == ON_PHASES
-               ? phases_of[version](single(&q->report), q->mask, q->mask_len, q->ranks, out, q->room)
-               : weights_of[version](single(&q->report), q->mask, q->mask_len, q->ranks, out, q->room);
+               ? phases_of[version](single_report(&q->report), q->mask, q->mask_len, q->ranks, out, q->room)
+               : weights_of[version](single_report(&q->report), q->mask, q->mask_len, q->ranks, out, q->room);
 }
 
 static void print_call(FILE *to, int version, int function, const request *q) {
@@ -141,9 +141,9 @@ static uint32_t i14_used(const aspenflick_panel_report *r) { return r->ng == 4 ?
 // every range, for several panels above those of i11, i12 and i13.
 static int next_request(request *q) {
     aspenflick_panel_report *r = &q->report;
-    int panels = q->codebook == PANELS;
-    uint32_t i2 = !panels ? 16 : r->v == 1 ? 3 : 1, i2_others = panels && r->mode == 2;
-    uint32_t i14 = panels ? i14_used(r) : 0;
+    int several = q->codebook == PANELS;
+    uint32_t i2 = !several ? 16 : r->v == 1 ? 3 : 1, i2_others = several && r->mode == 2;
+    uint32_t i14 = several ? i14_used(r) : 0;
     const struct { uint32_t *index, last; } box[] = {
         {&r->i2[0], i2}, {&r->i2[1], i2_others}, {&r->i2[2], i2_others},
         {&r->i14[0], i14 > 0 ? 3 : 0}, {&r->i14[1], i14 > 1 ? 3 : 0}, {&r->i14[2], i14 > 2 ? 3 : 0},
@@ -268,7 +268,7 @@ static uint64_t measured(int version, int function, const request *q) {
     weights_function *weights = weights_of[version];
     panel_phases_function *panel_phases = panel_phases_of[version];
     panel_weights_function *panel_weights = panel_weights_of[version];
-    const aspenflick_report report = single(&q->report);
+    const aspenflick_report report = single_report(&q->report);
     uint8_t *bytes = buffers[0].bytes;
     int16_t *numbers = buffers[0].numbers;
     aspenflick_record record;
