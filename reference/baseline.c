@@ -1,9 +1,10 @@
-// The whole job in plain C, written by hand: what the instructions of aspenflick_phases and aspenflick_weights, and their
-// answers to random calls, are compared with.
+// The whole job of both codebooks in plain C, written by hand: what the library's instructions and its answers to random
+// calls are compared with.
 #include "baseline.h"
 
 enum { TURN = 192, HALF = TURN / 2, QUARTER = TURN / 4, EIGHTH = TURN / 8 };
 enum { MOST_N1 = 16, MOST_N2 = 4, MOST_V = 8, MOST_ENTRIES = 256 };
+enum { MOST_PANELS = 4, MOST_PANEL_N1 = 8, MOST_PANEL_N2 = 2, MOST_PANEL_V = 4, MOST_PANEL_ENTRIES = 128 };
 
 typedef struct { uint8_t l, m; } beam;
 
@@ -13,12 +14,25 @@ typedef struct {
     beam beams[4];
 } plan;
 
+// An accepted multi-panel report: f, what turns the two polarisations of the first panel into those of each other panel,
+// and B and B', reduced.
+typedef struct {
+    uint8_t ports, f, turns[MOST_PANELS - 1][2];
+    beam beams[2];
+} panel_plan;
+
 // P by N2 and N1, and 0 where (N1,N2) is not a setting.
 static const uint8_t ports_of[MOST_N2 + 1][MOST_N1 + 1] = {
     [1] = {[1] = 2, [2] = 4, [4] = 8, [6] = 12, [8] = 16, [12] = 24, [16] = 32},
     [2] = {[2] = 8, [3] = 12, [4] = 16, [6] = 24, [8] = 32},
     [3] = {[4] = 24},
     [4] = {[4] = 32},
+};
+
+// P by Ng / 2, N2 and N1, and 0 where (Ng,N1,N2) is not a setting.
+static const uint8_t panel_ports_of[MOST_PANELS / 2 + 1][MOST_PANEL_N2 + 1][MOST_PANEL_N1 + 1] = {
+    [1] = {[1] = {[2] = 8, [4] = 16, [8] = 32}, [2] = {[2] = 16, [4] = 32}},
+    [2] = {[1] = {[2] = 16, [4] = 32}, [2] = {[2] = 32}},
 };
 
 // The phase for one step of l or m by N1 or N2. In a direction of one antenna l or m is 0.
@@ -95,6 +109,7 @@ static inline uint8_t turned(uint8_t phase, uint8_t by) {
 
 static inline int mask_bit(const uint8_t *mask, unsigned k) { return mask[k / 8] >> k % 8 & 1; }
 
+// By the ports of one panel.
 static uint32_t i13_values(unsigned ports, unsigned v, int half_length) {
     if (half_length) return 4;
     if (ports == 2 || v == 1 || v > 4) return 1;
@@ -103,15 +118,20 @@ static uint32_t i13_values(unsigned ports, unsigned v, int half_length) {
 }
 
 // The steps from B to the beams after it.
-static const beam *steps_of(const aspenflick_report *r) {
-    switch (r->v) {
-    case 2: return (r->n2 == 1 ? k_two_line : r->n1 == r->n2 ? k_two_square : k_two_wide) + r->i13;
+static const beam *steps_of(unsigned n1, unsigned n2, unsigned v, unsigned i13) {
+    switch (v) {
+    case 2: return (n2 == 1 ? k_two_line : n1 == n2 ? k_two_square : k_two_wide) + i13;
     case 3:
-    case 4: return (r->n2 == 1 ? k_three_line : k_three_wide) + r->i13;
+    case 4: return (n2 == 1 ? k_three_line : k_three_wide) + i13;
     case 5:
-    case 6: return r->n2 == 1 ? k_many_line : k_six_wide;
-    default: return r->n2 == 1 ? k_many_line : k_eight_wide;
+    case 6: return n2 == 1 ? k_many_line : k_six_wide;
+    default: return n2 == 1 ? k_many_line : k_eight_wide;
     }
+}
+
+// A beam, reduced. Neither number reaches twice the beams of its direction.
+static inline beam reduced(unsigned l, unsigned m, unsigned across, unsigned down) {
+    return (beam){l < across ? l : l - across, m < down ? m : m - down};
 }
 
 // Gives the first refusal that applies, or 0 and the plan.
@@ -148,15 +168,12 @@ static uint32_t judge(const aspenflick_report *r, const uint8_t *mask, size_t ma
     }
 
     unsigned used = v == 1 || half_length ? 1 : v <= 4 ? 2 : v <= 6 ? 3 : 4;
-    const beam *k = steps_of(r);
+    const beam *k = steps_of(r->n1, r->n2, v, r->i13);
     for (unsigned i = 0; i < used; i++) {
-        // No sum reaches twice the beams of its direction.
-        unsigned x = i ? l + 4 * k[i - 1].l : l, y = i ? m + 4 * k[i - 1].m : m;
-        if (x >= across) x -= across;
-        if (y >= down) y -= down;
-        p->beams[i] = (beam){x, y};
-        unsigned bit = two_ports ? (v == 1 ? n : 4 + n) : down * x + y;
+        beam b = i ? reduced(l + 4 * k[i - 1].l, m + 4 * k[i - 1].m, across, down) : reduced(l, m, across, down);
+        unsigned bit = two_ports ? (v == 1 ? n : 4 + n) : down * b.l + b.m;
         if (!mask_bit(mask, bit)) return 10;
+        p->beams[i] = b;
     }
     if (room < v * ports) return 11;
 
@@ -166,6 +183,49 @@ static uint32_t judge(const aspenflick_report *r, const uint8_t *mask, size_t ma
     p->columns = r->n2;
     p->f = n * QUARTER;
     p->t = r->i13 * EIGHTH;
+    return 0;
+}
+
+// The same for a multi-panel report.
+static uint32_t judge_panels(const aspenflick_panel_report *r, const uint8_t *mask, size_t mask_len, uint8_t ranks,
+                             size_t room, panel_plan *p) {
+    if ((r->ng != 2 && r->ng != 4) || r->n1 > MOST_PANEL_N1 || r->n2 > MOST_PANEL_N2) return 1;
+    unsigned ports = panel_ports_of[r->ng / 2][r->n2][r->n1];
+    if (ports == 0) return 1;
+    if (r->mode != 1 && (r->mode != 2 || r->ng == 4)) return 2;
+    unsigned across = 4 * r->n1, down = r->n2 == 1 ? 1 : 4 * r->n2;
+    if (mask_len != across * down / 8) return 3;
+    unsigned v = r->v;
+    if (v == 0 || v > MOST_PANEL_V) return 4;
+    if (!(ranks >> (v - 1) & 1)) return 5;
+
+    unsigned l = r->i11, m = r->i12;
+    if (l >= across) return 6;
+    if (m >= down) return 7;
+    if (r->i13 >= i13_values(2 * r->n1 * r->n2, v, 0)) return 8;
+    const uint32_t *i14 = r->i14, *i2 = r->i2;
+    unsigned i14_used = r->ng == 4 ? 3 : r->mode, i2_others = r->mode == 2 ? 2 : 1;
+    if (i14[0] >= 4 || i14[1] >= (i14_used > 1 ? 4u : 1u) || i14[2] >= (i14_used > 2 ? 4u : 1u)) return 12;
+    if (i2[0] >= (v == 1 ? 4u : 2u) || i2[1] >= i2_others || i2[2] >= i2_others) return 9;
+
+    p->beams[0] = (beam){l, m};
+    if (!mask_bit(mask, down * l + m)) return 10;
+    if (v > 1) {
+        const beam *k = steps_of(r->n1, r->n2, v, r->i13);
+        beam b = reduced(l + 4 * k->l, m + 4 * k->m, across, down);
+        if (!mask_bit(mask, down * b.l + b.m)) return 10;
+        p->beams[1] = b;
+    }
+    if (room < v * ports) return 11;
+
+    p->ports = ports;
+    p->f = i2[0] * QUARTER;
+    if (r->mode == 2) {
+        p->turns[0][0] = (i14[0] + i2[1]) % 4 * QUARTER;
+        p->turns[0][1] = (i14[1] + i2[2] - i2[0]) % 4 * QUARTER;
+    } else {
+        for (unsigned g = 0; g < r->ng - 1; g++) p->turns[g][0] = p->turns[g][1] = i14[g] * QUARTER;
+    }
     return 0;
 }
 
@@ -201,10 +261,37 @@ static void write_layers(const aspenflick_report *r, const plan *p, uint8_t *out
     }
 }
 
+// Writes every layer: its first panel, and the others from it.
+static void write_panels(const aspenflick_panel_report *r, const panel_plan *p, uint8_t *out) {
+    size_t size = r->n1 * r->n2;
+    for (size_t j = 0; j < r->v; j++) {
+        const column *c = &columns_of[r->v][j];
+        const beam *b = &p->beams[c->place];
+        const uint8_t *panel = out;
+        write_beam(out, r->n1, r->n2, b->l * step_of[r->n1], b->m * step_of[r->n2]);
+        write_turned(out + size, panel, size, turned(p->f, c->added));
+        out += 2 * size;
+        for (size_t g = 0; g < r->ng - 1; g++, out += 2 * size) {
+            const uint8_t *turns = p->turns[g];
+            if (turns[0] == turns[1]) {
+                write_turned(out, panel, 2 * size, turns[0]);
+            } else {
+                write_turned(out, panel, size, turns[0]);
+                write_turned(out + size, panel + size, size, turns[1]);
+            }
+        }
+    }
+}
+
 static aspenflick_record refused(uint32_t refusal) { return (aspenflick_record){refusal, 0, 0, 0}; }
 
-static aspenflick_record accepted(const aspenflick_report *r, const plan *p) {
-    return (aspenflick_record){0, p->ports, r->v, r->v * p->ports};
+static aspenflick_record accepted(uint32_t ports, uint32_t v) { return (aspenflick_record){0, ports, v, v * ports}; }
+
+static void write_weights(int16_t *restrict out, const uint8_t *restrict phases, size_t n) {
+    for (size_t i = 0; i < n; i++) {
+        out[2 * i] = weight_of[phases[i]][0];
+        out[2 * i + 1] = weight_of[phases[i]][1];
+    }
 }
 
 aspenflick_record baseline_phases(aspenflick_report r, const uint8_t *beams, size_t beams_len, uint8_t ranks,
@@ -213,7 +300,7 @@ aspenflick_record baseline_phases(aspenflick_report r, const uint8_t *beams, siz
     uint32_t refusal = judge(&r, beams, beams_len, ranks, out_len, &p);
     if (refusal) return refused(refusal);
     write_layers(&r, &p, out);
-    return accepted(&r, &p);
+    return accepted(p.ports, r.v);
 }
 
 aspenflick_record baseline_weights(aspenflick_report r, const uint8_t *beams, size_t beams_len, uint8_t ranks,
@@ -223,10 +310,26 @@ aspenflick_record baseline_weights(aspenflick_report r, const uint8_t *beams, si
     if (refusal) return refused(refusal);
     uint8_t phases[MOST_ENTRIES];
     write_layers(&r, &p, phases);
-    aspenflick_record record = accepted(&r, &p);
-    for (size_t i = 0; i < record.scale; i++) {
-        out[2 * i] = weight_of[phases[i]][0];
-        out[2 * i + 1] = weight_of[phases[i]][1];
-    }
-    return record;
+    write_weights(out, phases, r.v * p.ports);
+    return accepted(p.ports, r.v);
+}
+
+aspenflick_record baseline_panel_phases(aspenflick_panel_report r, const uint8_t *beams, size_t beams_len, uint8_t ranks,
+                                        uint8_t *out, size_t out_len) {
+    panel_plan p;
+    uint32_t refusal = judge_panels(&r, beams, beams_len, ranks, out_len, &p);
+    if (refusal) return refused(refusal);
+    write_panels(&r, &p, out);
+    return accepted(p.ports, r.v);
+}
+
+aspenflick_record baseline_panel_weights(aspenflick_panel_report r, const uint8_t *beams, size_t beams_len, uint8_t ranks,
+                                         int16_t *out, size_t out_len) {
+    panel_plan p;
+    uint32_t refusal = judge_panels(&r, beams, beams_len, ranks, out_len / 2, &p);
+    if (refusal) return refused(refusal);
+    uint8_t phases[MOST_PANEL_ENTRIES];
+    write_panels(&r, &p, phases);
+    write_weights(out, phases, r.v * p.ports);
+    return accepted(p.ports, r.v);
 }

@@ -1,5 +1,5 @@
-// Makes random calls of aspenflick_phases and aspenflick_weights and checks what comes of each, also against the
-// version by hand, baseline_phases and baseline_weights; then seeds faults into such calls and checks that each is seen.
+// Makes random calls of the functions that write phases or weights, of both codebooks, and checks what comes of each, also
+// against the version by hand; then seeds faults into such calls and checks that each is seen.
 //
 //     random COUNT SEED
 //
@@ -12,10 +12,16 @@
 void *memcpy(void *, const void *, size_t);
 int memcmp(const void *, const void *, size_t);
 
-enum { PHASES, WEIGHTS, FUNCTIONS };
-static const char *const function_names[FUNCTIONS] = {"phases", "weights"};
+enum { PHASES, WEIGHTS, PANEL_PHASES, PANEL_WEIGHTS, FUNCTIONS };
+static const struct { const char *name; int panels, weights; uint32_t refusals; } functions[FUNCTIONS] = {
+    [PHASES] = {"phases", 0, 0, 11},
+    [WEIGHTS] = {"weights", 0, 1, 11},
+    [PANEL_PHASES] = {"panel_phases", 1, 0, 12},
+    [PANEL_WEIGHTS] = {"panel_weights", 1, 1, 12},
+};
 
-enum { REFUSALS = 11, TURN = 192 };
+// No outcome is to be rarer than one request in RAREST.
+enum { REFUSALS = 12, RAREST = 200, TURN = 192 };
 static const uint32_t SQUARED = 16384 * 16384, POWER_LIMIT = 32768;
 enum { MOST = 600, GUARD = 32, PLACES = 64, ROOM = PLACES + GUARD + 2 * MOST + GUARD + 8 };
 
@@ -31,17 +37,21 @@ static uint64_t draw(void) {
 
 static uint32_t below(uint32_t bound) { return (uint32_t)((draw() >> 32) * bound >> 32); }
 
-// What is asked in one call, but for the bits of the beam mask. The buffer's length counts bytes or 16-bit numbers.
+// What is asked in one call, but for the bits of the beam mask. The buffer's length counts bytes or 16-bit numbers. For
+// the single panel Ng is 1 and the first number of i2 alone is given.
 typedef struct {
-    aspenflick_report report;
+    aspenflick_panel_report report;
     uint8_t ranks;
     size_t beams_len, out_len;
 } request;
 
-static const struct { uint8_t n1, n2; } settings[] = {
-    {1, 1}, {2, 1}, {2, 2}, {4, 1}, {3, 2}, {6, 1}, {4, 2}, {8, 1}, {4, 3}, {6, 2}, {12, 1}, {4, 4}, {8, 2}, {16, 1},
+// Those of the single panel, and then those of several.
+static const struct { uint8_t ng, n1, n2; } settings[] = {
+    {1, 1, 1}, {1, 2, 1}, {1, 2, 2}, {1, 4, 1}, {1, 3, 2}, {1, 6, 1}, {1, 4, 2}, {1, 8, 1}, {1, 4, 3}, {1, 6, 2},
+    {1, 12, 1}, {1, 4, 4}, {1, 8, 2}, {1, 16, 1},
+    {2, 2, 1}, {2, 4, 1}, {4, 2, 1}, {2, 2, 2}, {2, 8, 1}, {4, 4, 1}, {2, 4, 2}, {4, 2, 2},
 };
-enum { SETTINGS = sizeof settings / sizeof settings[0] };
+enum { SETTINGS = sizeof settings / sizeof settings[0], SINGLE_SETTINGS = 14 };
 
 // The usual number but for nine chances: one at the bound, one that 8 or 16 bits would cut down to the usual one, or any.
 static uint32_t vary(uint32_t usual, uint32_t bound, uint32_t chances) {
@@ -77,21 +87,32 @@ static size_t vary_length(uint32_t needed, uint32_t chances) {
 // A request. The ranges from which its indices are drawn are not exact: whether it has to be refused is not known here.
 // Most have no fault or one, so that many are accepted; some have many, so that the order of the refusals is seen.
 static request any_request(int function) {
-    uint32_t setting = below(SETTINGS), n1 = settings[setting].n1, n2 = settings[setting].n2, ports = 2 * n1 * n2;
-    uint32_t mode = 1 + below(2), v = 1 + below(ports < 8 ? ports : 8);
+    int panels = functions[function].panels;
+    uint32_t setting = panels ? SINGLE_SETTINGS + below(SETTINGS - SINGLE_SETTINGS) : below(SINGLE_SETTINGS);
+    uint32_t ng = settings[setting].ng, n1 = settings[setting].n1, n2 = settings[setting].n2, ports = 2 * ng * n1 * n2;
+    uint32_t mode = ng == 4 ? 1 : 1 + below(2), most_v = panels ? 4 : ports < 8 ? ports : 8, v = 1 + below(most_v);
     uint32_t i11_bound = ports > 2 ? 4 * n1 >> below(2) : 1, i12_bound = n2 > 1 ? 4 * n2 >> below(2) : 1;
     uint32_t i13_bound = ports > 2 && v >= 2 && v <= 4 ? 1 + below(4) : 1;
-    uint32_t i2_bound = (v == 1 ? 4 : 2) * (ports > 2 && mode == 2 && v <= 2 ? 4 : 1);
+    uint32_t i2_bound = (v == 1 ? 4 : 2) * (!panels && ports > 2 && mode == 2 && v <= 2 ? 4 : 1);
     uint32_t chances = below(16) ? 192 : 32;
-    request q = {.ranks = 255};
-    q.report.n1 = vary(n1, 17, chances);
-    q.report.n2 = vary(n2, n1 + 1, chances);
+    request q = {.report = {.ng = 1}, .ranks = 255};
+    q.report.n1 = vary(n1, panels ? 9 : 17, chances);
+    q.report.n2 = vary(n2, panels ? 3 : n1 + 1, chances);
     q.report.mode = vary(mode, 3, chances);
-    q.report.v = vary(v, ports < 8 ? ports + 1 : 9, chances);
+    q.report.v = vary(v, most_v + 1, chances);
     q.report.i11 = vary(below(i11_bound), i11_bound, chances);
     q.report.i12 = vary(below(i12_bound), i12_bound, chances);
     q.report.i13 = vary(below(i13_bound), i13_bound, chances);
-    q.report.i2 = vary(below(i2_bound), i2_bound, chances);
+    q.report.i2[0] = vary(below(i2_bound), i2_bound, chances);
+    if (panels) {
+        uint32_t i14_used = ng == 4 ? 3 : mode, others = mode == 2 ? 2 : 1;
+        q.report.ng = vary(ng, 5, chances);
+        for (uint32_t k = 0; k < 3; k++) {
+            uint32_t i14_bound = k < i14_used ? 4 : 1;
+            q.report.i14[k] = vary(below(i14_bound), i14_bound, chances);
+            if (k > 0) q.report.i2[k] = vary(below(others), others, chances);
+        }
+    }
     switch (below(16)) {
     case 0: q.ranks = (uint8_t)draw(); break;
     case 1: q.ranks = (uint8_t)(draw() | draw() | draw()); break;
@@ -100,7 +121,7 @@ static request any_request(int function) {
     }
     uint32_t beam_bits = ports > 2 ? 4 * n1 * (n2 > 1 ? 4 * n2 : 1) : 8;
     q.beams_len = vary_length(beam_bits / 8, chances);
-    q.out_len = vary_length(v * ports * (function == WEIGHTS ? 2 : 1), 32);
+    q.out_len = vary_length(v * ports * (functions[function].weights ? 2 : 1), 32);
     return q;
 }
 
@@ -129,8 +150,8 @@ static void fill(loan *l, extent e, int function) {
     }
     for (size_t i = 0; i < GUARD; i++) {
         uint8_t *before = at + i, *behind = at + GUARD + e.len + i;
-        *before = (uint8_t)(*before % 64 + (function == WEIGHTS ? 96 : 192));
-        *behind = (uint8_t)(*behind % 64 + (function == WEIGHTS ? 96 : 192));
+        *before = (uint8_t)(*before % 64 + (functions[function].weights ? 96 : 192));
+        *behind = (uint8_t)(*behind % 64 + (functions[function].weights ? 96 : 192));
     }
 }
 
@@ -152,7 +173,7 @@ enum {
     CHECKS
 };
 static const char *const check_names[CHECKS] = {
-    [KNOWN] = "the refusal is 0 to 11",
+    [KNOWN] = "the refusal is 0 or one of the codebook's",
     [ZEROS] = "refused: ports, layers and scale are 0",
     [AS_LENT] = "refused: the buffer is as lent",
     [RECORD] = "accepted: the record is 0, P, v, v*P",
@@ -166,13 +187,13 @@ static const char *const check_names[CHECKS] = {
     [BASELINE_OUT] = "the buffer is that of the version by hand",
 };
 
-// Faults, seeded into some calls, each with the check that has to see it.
+// Faults, seeded into some calls, each with the check that has to see it; the last two are for several panels alone.
 enum {
     NONE, UNKNOWN_REFUSAL, PORTS_ON_REFUSAL, BYTE_ON_REFUSAL, WRONG_SCALE, NO_ENTRY, PAST_ANSWER, NOT_WRITTEN, BEFORE_OUT,
-    BEHIND_OUT, BEFORE_BEAMS, BEHIND_BEAMS, BEAMS_BYTE, OTHER_ORDER, OTHER_ENTRY, FAULTS
+    BEHIND_OUT, BEFORE_BEAMS, BEHIND_BEAMS, BEAMS_BYTE, OTHER_ORDER, OTHER_ENTRY, OTHER_PANEL_ORDER, OTHER_PANEL, FAULTS
 };
 static const struct { const char *name; int seen_by; } faults[FAULTS] = {
-    [UNKNOWN_REFUSAL] = {"12 for the refusal 11", KNOWN},
+    [UNKNOWN_REFUSAL] = {"one above all refusals for 11", KNOWN},
     [PORTS_ON_REFUSAL] = {"ports given on a refusal", ZEROS},
     [BYTE_ON_REFUSAL] = {"a byte of the buffer changed on a refusal", AS_LENT},
     [WRONG_SCALE] = {"the scale less by P", RECORD},
@@ -186,30 +207,47 @@ static const struct { const char *name; int seen_by; } faults[FAULTS] = {
     [BEAMS_BYTE] = {"a byte of the mask changed", BEAMS},
     [OTHER_ORDER] = {"11 before 10", BASELINE_RECORD},
     [OTHER_ENTRY] = {"the first entry in place of another", BASELINE_OUT},
+    [OTHER_PANEL_ORDER] = {"9 before 12", BASELINE_RECORD},
+    [OTHER_PANEL] = {"the first panel in place of the last", BASELINE_OUT},
 };
 enum { FAULTY = 20000 };
 
 static loan beams, beams_lent, out, out_lent, out_again, out_again_lent, out_baseline;
 static unsigned long long outcomes[FUNCTIONS][REFUSALS + 1], failures[FUNCTIONS][CHECKS];
 
-static aspenflick_record call(int function, const request *q, const uint8_t *mask, uint8_t *bytes) {
-    return function == WEIGHTS
-               ? aspenflick_weights(q->report, mask, q->beams_len, q->ranks, (int16_t *)(void *)bytes, q->out_len)
-               : aspenflick_phases(q->report, mask, q->beams_len, q->ranks, bytes, q->out_len);
-}
+static uint32_t ports_of(const request *q) { return 2 * q->report.ng * q->report.n1 * q->report.n2; }
+
+// A call of the library, or of the version by hand.
+#define CALL(name, prefix)                                                                                            \
+    static aspenflick_record name(int function, const request *q, const uint8_t *mask, uint8_t *bytes) {              \
+        const aspenflick_panel_report r = q->report;                                                                  \
+        const aspenflick_report single = {r.n1, r.n2, r.mode, r.v, r.i11, r.i12, r.i13, r.i2[0]};                     \
+        int16_t *numbers = (int16_t *)(void *)bytes;                                                                  \
+        switch (function) {                                                                                           \
+        case PHASES: return prefix##_phases(single, mask, q->beams_len, q->ranks, bytes, q->out_len);                 \
+        case WEIGHTS: return prefix##_weights(single, mask, q->beams_len, q->ranks, numbers, q->out_len);             \
+        case PANEL_PHASES: return prefix##_panel_phases(r, mask, q->beams_len, q->ranks, bytes, q->out_len);          \
+        default: return prefix##_panel_weights(r, mask, q->beams_len, q->ranks, numbers, q->out_len);                 \
+        }                                                                                                             \
+    }
+CALL(call, aspenflick)
+CALL(call_baseline, baseline)
 
 // Spoils what a call has given, as a library with that fault would: twice alike. `choice` picks the byte or the entry.
 static aspenflick_record spoil(int fault, uint32_t choice, int function, const request *q, uint8_t *mask, uint8_t *bytes,
                                const uint8_t *bytes_lent, aspenflick_record record) {
-    size_t entry = function == WEIGHTS ? 2 * sizeof(int16_t) : sizeof(uint8_t), scale = record.scale;
-    size_t len = function == WEIGHTS ? sizeof(int16_t) * q->out_len : q->out_len, beams_len = q->beams_len;
+    int weights = functions[function].weights;
+    size_t entry = weights ? 2 * sizeof(int16_t) : sizeof(uint8_t), scale = record.scale;
+    size_t len = weights ? sizeof(int16_t) * q->out_len : q->out_len, beams_len = q->beams_len;
     const uint8_t *mask_lent = beams_lent.room + (mask - beams.room);
     if (record.refusal) {
-        size_t needed = entry * 2 * q->report.n1 * q->report.n2 * q->report.v;
-        if (fault == UNKNOWN_REFUSAL && record.refusal == 11) record.refusal = 12;
+        size_t needed = entry * ports_of(q) * q->report.v;
+        int bad_i2 = q->report.i2[0] > 3 || q->report.i2[1] > 1 || q->report.i2[2] > 1;
+        if (fault == UNKNOWN_REFUSAL && record.refusal == 11) record.refusal = functions[function].refusals + 1;
         if (fault == PORTS_ON_REFUSAL) record.ports = 4;
         if (fault == BYTE_ON_REFUSAL && len) bytes[choice % len] ^= 1;
         if (fault == OTHER_ORDER && record.refusal == 10 && len < needed) record.refusal = 11;
+        if (fault == OTHER_PANEL_ORDER && record.refusal == 12 && bad_i2) record.refusal = 9;
     } else {
         uint8_t *some = bytes + choice % scale * entry;
         if (fault == WRONG_SCALE) record.scale -= record.ports;
@@ -217,6 +255,10 @@ static aspenflick_record spoil(int fault, uint32_t choice, int function, const r
         if (fault == PAST_ANSWER && scale * entry < len) bytes[scale * entry] ^= 1;
         if (fault == NOT_WRITTEN) memcpy(some, bytes_lent + (some - bytes), entry);
         if (fault == OTHER_ENTRY) memcpy(some, bytes, entry);
+        if (fault == OTHER_PANEL) {
+            size_t panel = entry * record.ports / q->report.ng;
+            memcpy(bytes + panel * (q->report.ng - 1), bytes, panel);
+        }
     }
     if (fault == BEFORE_OUT) bytes[-1] ^= 1;
     if (fault == BEHIND_OUT) bytes[len] ^= 1;
@@ -226,12 +268,6 @@ static aspenflick_record spoil(int fault, uint32_t choice, int function, const r
     return record;
 }
 
-static aspenflick_record call_baseline(int function, const request *q, const uint8_t *mask, uint8_t *bytes) {
-    return function == WEIGHTS
-               ? baseline_weights(q->report, mask, q->beams_len, q->ranks, (int16_t *)(void *)bytes, q->out_len)
-               : baseline_phases(q->report, mask, q->beams_len, q->ranks, bytes, q->out_len);
-}
-
 static int same_record(aspenflick_record a, aspenflick_record b) {
     return a.refusal == b.refusal && a.ports == b.ports && a.layers == b.layers && a.scale == b.scale;
 }
@@ -239,7 +275,7 @@ static int same_record(aspenflick_record a, aspenflick_record b) {
 // Whether every entry of an answer of so many bytes is a phase, or a weight whose power is near the square of 16384.
 static int legal(int function, const uint8_t *bytes, size_t len) {
     int good = 1;
-    if (function == PHASES) {
+    if (!functions[function].weights) {
         for (size_t i = 0; i < len; i++) good &= bytes[i] < TURN;
         return good;
     }
@@ -257,7 +293,8 @@ static int legal(int function, const uint8_t *bytes, size_t len) {
 // are counted, but not printed.
 static void ask(int function, uint64_t number, int fault) {
     request q = any_request(function);
-    size_t width = function == WEIGHTS ? sizeof(int16_t) : sizeof(uint8_t);
+    int weights = functions[function].weights;
+    size_t width = weights ? sizeof(int16_t) : sizeof(uint8_t);
     extent b = {below(PLACES), q.beams_len}, o = {width * below((uint32_t)(PLACES / width)), width * q.out_len};
     fill(&beams_lent, b, function);
     make_beams(inner(&beams_lent, b), b.len);
@@ -280,14 +317,14 @@ static void ask(int function, uint64_t number, int fault) {
         again = spoil(fault, choice, function, &q, mask, bytes_again, bytes_again_lent, again);
     }
 
-    uint32_t ports = 2 * q.report.n1 * q.report.n2, scale = q.report.v * ports;
+    uint32_t ports = ports_of(&q), scale = q.report.v * ports;
     int refused = record.refusal != 0;
     // Of an answer that is longer than the buffer no more can be looked at.
-    size_t answer = refused ? 0 : width * (function == WEIGHTS ? 2 : 1) * (size_t)scale;
+    size_t answer = refused ? 0 : width * (weights ? 2 : 1) * (size_t)scale;
     if (answer > o.len) answer = o.len;
     size_t rest = o.len - answer;
     const int holds[CHECKS] = {
-        [KNOWN] = record.refusal <= REFUSALS,
+        [KNOWN] = record.refusal <= functions[function].refusals,
         [ZEROS] = !refused || !(record.ports | record.layers | record.scale),
         [AS_LENT] = !refused || !memcmp(bytes, bytes_lent, o.len),
         [RECORD] = refused || (record.ports == ports && record.layers == q.report.v && record.scale == scale),
@@ -304,17 +341,20 @@ static void ask(int function, uint64_t number, int fault) {
     if (record.refusal <= REFUSALS) outcomes[function][record.refusal]++;
     for (int check = 0; check < CHECKS; check++) {
         if (holds[check] || failures[function][check]++ || fault) continue;
-        const aspenflick_report r = q.report;
-        printf("%s: request %llu fails `%s`: N1=%u N2=%u mode=%u v=%u i11=%u i12=%u i13=%u i2=%u ranks=%u, "
-               "%zu bytes of mask, room for %zu: %u %u %u %u, the version by hand %u %u %u %u\n",
-               function_names[function], (unsigned long long)number, check_names[check], r.n1, r.n2, r.mode, r.v, r.i11,
-               r.i12, r.i13, r.i2, q.ranks, q.beams_len, q.out_len, record.refusal, record.ports, record.layers,
-               record.scale, baseline.refusal, baseline.ports, baseline.layers, baseline.scale);
+        const aspenflick_panel_report r = q.report;
+        printf("%s: request %llu fails `%s`: Ng=%u N1=%u N2=%u mode=%u v=%u i11=%u i12=%u i13=%u i14=%u,%u,%u "
+               "i2=%u,%u,%u ranks=%u, %zu bytes of mask, room for %zu: %u %u %u %u, the version by hand %u %u %u %u\n",
+               functions[function].name, (unsigned long long)number, check_names[check], r.ng, r.n1, r.n2, r.mode, r.v,
+               r.i11, r.i12, r.i13, r.i14[0], r.i14[1], r.i14[2], r.i2[0], r.i2[1], r.i2[2], q.ranks, q.beams_len,
+               q.out_len, record.refusal, record.ports, record.layers, record.scale, baseline.refusal, baseline.ports,
+               baseline.layers, baseline.scale);
     }
 }
 
+static int first_function(int fault) { return fault < OTHER_PANEL_ORDER ? PHASES : PANEL_PHASES; }
+
 static void run(uint64_t count, int fault) {
-    for (int function = 0; function < FUNCTIONS; function++) {
+    for (int function = first_function(fault); function < FUNCTIONS; function++) {
         for (int k = 0; k <= REFUSALS; k++) outcomes[function][k] = 0;
         for (int k = 0; k < CHECKS; k++) failures[function][k] = 0;
         for (uint64_t number = 0; number < count; number++) ask(function, number, fault);
@@ -346,22 +386,24 @@ int main(int arguments, char **argument) {
     run(count, NONE);
     for (int function = 0; function < FUNCTIONS; function++) {
         unsigned long long *times = outcomes[function], *broken = failures[function];
-        const char *name = function_names[function];
+        const char *name = functions[function].name;
         printf("%s: %llu requests, accepted %llu%s, by refusal", name, (unsigned long long)count, times[0],
-               test(times[0] > 0));
-        for (int k = 1; k <= REFUSALS; k++) printf("%s %d: %llu%s", k > 1 ? "," : "", k, times[k], test(times[k] > 0));
+               test(times[0] * RAREST > count));
+        for (uint32_t k = 1; k <= functions[function].refusals; k++) {
+            printf("%s %u: %llu%s", k > 1 ? "," : "", k, times[k], test(times[k] * RAREST > count));
+        }
         printf("\n");
         for (int k = 0; k < CHECKS; k++) {
             printf("%s: %s: all but %llu%s\n", name, check_names[k], broken[k], test(count && !broken[k]));
         }
     }
     for (int fault = NONE + 1; fault < FAULTS; fault++) {
-        int check = faults[fault].seen_by;
+        int check = faults[fault].seen_by, first = first_function(fault);
         run(FAULTY, fault);
         printf("seeded: %s: `%s` fails", faults[fault].name, check_names[check]);
-        for (int function = 0; function < FUNCTIONS; function++) {
+        for (int function = first; function < FUNCTIONS; function++) {
             unsigned long long times = failures[function][check];
-            printf("%s %llu times for %s%s", function ? "," : "", times, function_names[function], test(times > 0));
+            printf("%s %llu times for %s%s", function > first ? "," : "", times, functions[function].name, test(times > 0));
         }
         printf("\n");
     }
