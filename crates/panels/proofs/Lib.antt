@@ -9,3 +9,4 @@ pub mod Asked
 pub mod Drawn
 pub mod Unique
 pub mod Demands
+pub mod Worked

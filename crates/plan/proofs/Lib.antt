@@ -10,3 +10,4 @@ pub mod Calls
 pub mod Demands
 pub mod Masked
 pub mod Longer
+pub mod Worked

@@ -15,7 +15,8 @@ use Rattle.plan.specs.Plan.{matrix}
 use Rattle.plan.specs.Answer.{asked, test, refusal, PhasesLeft}
 use Rattle.single.specs.Plan.{plan}
 use Rattle.single.specs.Single.{single}
-use Rattle.precoder.proofs.Worked.{ones, fresh, defined}
+use Rattle.plan.proofs.Worked.{ones, fresh}
+use Rattle.precoder.proofs.Worked.{defined}
 use Rattle.precoder.proofs.Demands.{single-demanded}
 
 -- worked report 1, of one layer; the same with i11 = 0; and one of two layers

@@ -2,15 +2,7 @@
 use mathlib.Core.Path.{_≡_, refl}
 use mathlib.Core.List.{List, [], _∷_, map, zipWith}
 use Prim.Native.Nat.{ℕ}
-use lib.Dec.{eqb}
 use lib.IntN.{pos, negℤ}
-use lib.ListN.{length, take, drop, replicate}
-use Rattle.ground.specs.Cases.{_⇒_∣_}
-use Rattle.ground.specs.Lists.{join, along, numbersFrom, some}
-use Rattle.ground.specs.First.{first}
-use Rattle.turn.specs.Phase.{turn, difference}
-use Rattle.turn.specs.Column.{steps, product, grid, step, beam, column}
-use Rattle.turn.specs.Exact.{count, differences}
 use Rattle.weight.specs.Table.{firstQuarter, firstHalf, xs, ys, table, weight, numbers}
 use Rattle.settings.specs.Settings.{settings, isSetting, maskBytes}
 use Rattle.settings.specs.Ranges.{modeTwo, halfLength, kTwo, kThree, kRows}
@@ -20,53 +12,14 @@ use Rattle.report.specs.Rules.{rule}
 use Rattle.report.specs.Beams.{n, base, offsets, moved, beams}
 use Rattle.report.specs.Listed.{asks}
 use Rattle.plan.specs.declared.Record.{Record}
-use Rattle.plan.specs.Plan.{columnOf, matrix}
-use Rattle.plan.specs.Masks.{bit, isZero, barred, rankBarred}
-use Rattle.plan.specs.Answer.{asked, refused, planned, recordOf, bufferOf, early, test, refusal, weightsOf}
+use Rattle.plan.specs.Answer.{weightsOf}
+use Rattle.plan.proofs.Worked.{Row, ones, differs, accepts, refuses, said, definedBy}
 use Rattle.single.specs.Columns.{byRank, quarters}
-use Rattle.single.specs.Plan.{whole, quartered, layers, plan}
+use Rattle.single.specs.Plan.{whole, quartered, layers}
 use Rattle.single.specs.Masks.{twoPortBit, bitsRead}
 use Rattle.single.specs.Single.{single}
 
--- a report with its beam mask, its rank mask and the length of the lent buffer; the record that it is given; entries of
--- the buffer afterwards, from a place on; and all differences between layers 1 and 2, each with the number of its ports,
--- or none where nothing is said of them
-pub record Row : Type 0 where
-  pub report : Report
-  pub mask : List ℕ
-  pub ranks : ℕ
-  pub room : ℕ
-  pub given : Record
-  pub place : ℕ
-  pub entries : List ℕ
-  pub differ : List (ℕ × ℕ)
-
--- a mask of so many bytes, all bits ones
-abbrev pub ones : ℕ → List ℕ
-ones bytes = replicate bytes 255
-
--- a buffer of so many entries as it is lent: no phase
-abbrev pub fresh : ℕ → List ℕ
-fresh room = replicate room 255
-
--- a row in which all bits of the rank mask are ones
-abbrev row : Report → List ℕ → ℕ → Record → ℕ → List ℕ → List (ℕ × ℕ) → Row
-row r mask room given place xs ds =
-    record { report = r; mask = mask; ranks = 255; room = room; given = given; place = place; entries = xs; differ = ds }
-
--- accepted, with some of its entries and the differences between layers 1 and 2
-abbrev differs : Report → List ℕ → ℕ → ℕ → ℕ → ℕ → List ℕ → List (ℕ × ℕ) → Row
-differs r mask p v scale = row r mask scale (record { refusal = 0; ports = p; layers = v; scale = scale })
-
--- accepted, with some of its entries
-abbrev accepts : Report → List ℕ → ℕ → ℕ → ℕ → ℕ → List ℕ → Row
-accepts r mask p v scale place entries = differs r mask p v scale place entries []
-
--- refused, and the whole buffer as lent
-abbrev refuses : Report → List ℕ → ℕ → ℕ → Row
-refuses r mask room k = row r mask room (refused k) 0 (fresh room) []
-
-pub reports : List Row
+pub reports : List (Row Report)
 reports =
     -- 1 and 2
     accepts (asks 2 1 1 1 1 0 0 1) (ones 1) 4 1 4 0 (0 ∷ 24 ∷ 48 ∷ 72 ∷ [])
@@ -98,34 +51,14 @@ reports =
     ∷ refuses (asks 2 1 1 1 1 0 0 1) (ones 1) 3 11
     ∷ []
 
--- what a row says
-pub said : Row → Record × List ℕ × List (ℕ × ℕ)
-said x = (x .given, x .entries, x .differ)
-
--- each phase that occurs in a list, with how often it does
-unfoldable pub tally : List ℕ → List (ℕ × ℕ)
-tally es = along (numbersFrom 0 turn) (λ e. eqb (count es e) 0 ⇒ [] ∣ (e, count es e) ∷ [])
-
--- that of the differences between layers 1 and 2, of p ports each, where something is said of them
-unfoldable pub tallied : List (ℕ × ℕ) → ℕ → List ℕ → List (ℕ × ℕ)
-tallied [] p left = []
-tallied (x ∷ xs) p left = tally (differences (take p left) (take p (drop p left)))
-
 -- what the definitions give; it is computed with all of them
-unfoldable pub defined : Row → Record × List ℕ × List (ℕ × ℕ)
+unfoldable pub defined : Row Report → Record × List ℕ × List (ℕ × ℕ)
 unfolding
-    steps product grid step beam column
-    some join first settings isSetting maskBytes byRank quarters
+    definedBy settings isSetting maskBytes byRank quarters
     modeTwo halfLength n base kTwo kThree kRows offsets moved beams
     halvesI11 i11Values halvesI12 i12Values i13Values i2Values
-    whole quartered layers columnOf matrix
-    bit twoPortBit bitsRead isZero barred rankBarred
-    rule early test refusal numbersFrom count difference differences tally tallied
-defined x =
-    let number = refusal single (asked (x .report) (x .mask) (x .ranks) (x .room)) in
-    let left = bufferOf number (matrix (plan (x .report))) (fresh (x .room)) in
-    let given = recordOf (planned (plan (x .report))) number in
-    (given, take (length (x .entries)) (drop (x .place) left), tallied (x .differ) (given .ports) left)
+    whole quartered layers twoPortBit bitsRead rule
+defined = definedBy single
 
 -- row by row
 pub worked : map defined reports ≡ map said reports
