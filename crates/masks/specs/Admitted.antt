@@ -14,14 +14,32 @@ bitsOf n width l m =
     let bit : ℕ → ℕ = λ i. width * getD l i 0 + getD m i 0 in
     bit 0 ∷ drop 1 (take n (bit 0 ∷ bit 1 ∷ bit 2 ∷ bit 3 ∷ []))
 
+-- what is tried before the bits: the number of the refusal, or 0
+unfoldable pub beforeBits : Needs → ℕ → ℕ → ℕ
+beforeBits x bytes ranks =
+    eqb (x .refusal) 1 || eqb (x .refusal) 2 ⇒ x .refusal
+    ∣ not (eqb bytes (x .bytes)) ⇒ 3
+    ∣ eqb (x .refusal) 4 ⇒ 4
+    ∣ rankBarred ranks (x .v) ⇒ 5
+    ∣ x .refusal
+
 -- the number of the refusal, or 0
 unfoldable pub admitted : Needs → List ℕ → ℕ → ℕ → ℕ
 admitted x mask ranks room =
-    eqb (x .refusal) 1 || eqb (x .refusal) 2 ⇒ x .refusal
-    ∣ not (eqb (length mask) (x .bytes)) ⇒ 3
-    ∣ eqb (x .refusal) 4 ⇒ 4
-    ∣ rankBarred ranks (x .v) ⇒ 5
-    ∣ not (eqb (x .refusal) 0) ⇒ x .refusal
+    not (eqb (beforeBits x (length mask) ranks) 0) ⇒ beforeBits x (length mask) ranks
     ∣ barred mask (bitsOf (x .count) (x .width) (x .l) (x .m)) ⇒ 10
     ∣ ltb room (x .entries) ⇒ 11
     ∣ 0
+
+-- the same of at most two beams
+abbrev pub upToTwo : Needs → Needs
+upToTwo x = record {
+  refusal = x .refusal;
+  bytes = x .bytes;
+  v = x .v;
+  entries = x .entries;
+  count = ltb 1 (x .count) ⇒ 2 ∣ x .count;
+  width = x .width;
+  l = x .l;
+  m = x .m;
+}

@@ -5,7 +5,7 @@ ghost use lib.Dec.{ltb};
 ghost use lib.ListN.{drop};
 ghost use Rattle.ground.specs.Cases.{_⇒_∣_};
 ghost use Rattle.plan.specs.Masks.{isZero, barred, rankBarred};
-ghost use Rattle.masks.specs.Admitted.{bitsOf, admitted};
+ghost use Rattle.masks.specs.Admitted.{bitsOf, beforeBits, admitted, upToTwo};
 
 // What a report asks for: the first of its codebook's own refusals that applies, or 0; the bytes of the beam mask; its
 // layers; the entries v·P of its precoder; and how many beams the mask is asked for, one to four, how many bits it has for
@@ -74,10 +74,9 @@ fn short_of(entries: u32, room: usize) -> u32
     if room < entries as usize { 11 } else { 0 }
 }
 
-// The first refusal that applies to a report, or 0: 3 where the beam mask has not the bytes needed, 5 where the rank is
-// barred, 10 where a bit that is read is zero and 11 where there is no room for its entries, among the codebook's own.
-pub fn admit(x: Needs, mask: &[u8], ranks: u8, room: usize) -> u32
-    ensures { λ k. ⌜ k ≡ admitted x (now (mask .entry)) ranks room ⌝ }
+// The first of 1 to 5 and of the codebook's own refusals that applies, or 0, by the bytes of the beam mask and the rank mask.
+fn before_bits(x: Needs, bytes: usize, ranks: u8) -> u32
+    ensures { λ k. ⌜ k ≡ beforeBits x bytes ranks ⌝ }
 {
     if x.refusal == 1 {
         return 1;
@@ -85,7 +84,7 @@ pub fn admit(x: Needs, mask: &[u8], ranks: u8, room: usize) -> u32
     if x.refusal == 2 {
         return 2;
     }
-    if mask.len() != x.bytes as usize {
+    if bytes != x.bytes as usize {
         return 3;
     }
     if x.refusal == 4 {
@@ -94,8 +93,17 @@ pub fn admit(x: Needs, mask: &[u8], ranks: u8, room: usize) -> u32
     if rank_barred(ranks, x.v) {
         return 5;
     }
-    if x.refusal != 0 {
-        return x.refusal;
+    x.refusal
+}
+
+// The first refusal that applies to a report, or 0: 3 where the beam mask has not the bytes needed, 5 where the rank is
+// barred, 10 where a bit that is read is zero and 11 where there is no room for its entries, among the codebook's own.
+pub fn admit(x: Needs, mask: &[u8], ranks: u8, room: usize) -> u32
+    ensures { λ k. ⌜ k ≡ admitted x (now (mask .entry)) ranks room ⌝ }
+{
+    let k = before_bits(x, mask.len(), ranks);
+    if k != 0 {
+        return k;
     }
     let l = x.l;
     let m = x.m;
@@ -106,6 +114,29 @@ pub fn admit(x: Needs, mask: &[u8], ranks: u8, room: usize) -> u32
         return short_of(x.entries, room);
     }
     if later_zero(mask, x.count, x.width, l, m) {
+        return 10;
+    }
+    short_of(x.entries, room)
+}
+
+// The same where at most two beams are asked for, however many are counted: a codebook that has no more is not slowed by the
+// others.
+pub fn admit_two(x: Needs, mask: &[u8], ranks: u8, room: usize) -> u32
+    ensures { λ k. ⌜ k ≡ admitted (upToTwo x) (now (mask .entry)) ranks room ⌝ }
+{
+    let k = before_bits(x, mask.len(), ranks);
+    if k != 0 {
+        return k;
+    }
+    let l = x.l;
+    let m = x.m;
+    if is_zero(mask, x.width, l[0], m[0]) {
+        return 10;
+    }
+    if x.count < 2 {
+        return short_of(x.entries, room);
+    }
+    if is_zero(mask, x.width, l[1], m[1]) {
         return 10;
     }
     short_of(x.entries, room)

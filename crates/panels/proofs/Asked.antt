@@ -10,7 +10,7 @@ use lib.Dec.{eqb}
 use borrow.Author.Tests.{not-false}
 use Rattle.ground.specs.Lists.{each}
 use Rattle.ground.specs.First.{first}
-use Rattle.ground.proofs.Booleans.{either}
+use Rattle.ground.proofs.Booleans.{either, cond-both}
 use Rattle.settings.specs.declared.Beam.{Beam}
 use Rattle.settings.specs.declared.Sizes.{Sizes}
 use Rattle.settings.specs.Settings.{ports, maskBytes, sizesOf}
@@ -20,9 +20,8 @@ use Rattle.masks.specs.declared.Needs.{Needs}
 use Rattle.masks.specs.Admitted.{bitsOf}
 use Rattle.masks.specs.Asks.{Asks}
 use Rattle.panels.specs.declared.PanelReport.{PanelReport}
-use Rattle.panels.specs.Rules.{isPanelSetting, panelPorts, rule, InRange}
-use Rattle.panels.specs.Plan.{B, B′, reached}
-use Rattle.panels.specs.Panels.{bitsRead, indices, ownOrder, panels}
+use Rattle.panels.specs.Panels.{isPanelSetting, panelPorts, B, B′, reached, rule, InRange, bitsRead, indices}
+use Rattle.panels.specs.Panels.{ownOrder, panels}
 use Rattle.panels.specs.Drawing.{HasBeams}
 use Rattle.panels.proofs.Known.{known}
 use Rattle.panels.proofs.InRange.{set, zero-in-range, v-few}
@@ -34,6 +33,9 @@ two-bits : (v w l l′ m m′ : ℕ)
     ≡ cond (eqb v 1) ((w * l + m) ∷ []) ((w * l + m) ∷ (w * l′ + m′) ∷ [])
 unfolding bitsOf
 two-bits v w l l′ m m′ = either (eqb v 1) (λ e. rw e) (λ e. rw e)
+
+pub few-beams : (v : ℕ) → cond (eqb v 1) 1 2 ≤ 2
+few-beams v = cond-both (λ n. n ≤ 2) (eqb v 1) {x = 1} {y = 2} (omega arith) (omega arith)
 
 module _ (r : PanelReport) {s : Sizes} (e : s ≡ sizesOf (r .n1) (r .n2)) where
   -- a report that is not refused by 1 has a setting, whose bytes are given

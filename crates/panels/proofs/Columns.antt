@@ -21,8 +21,8 @@ use Rattle.settings.specs.Ranges.{beam}
 use Rattle.settings.proofs.Known as one
 use Rattle.plan.specs.Plan.{layerAt}
 use Rattle.panels.specs.declared.PanelReport.{PanelReport}
-use Rattle.panels.specs.Rules.{InRange}
-use Rattle.panels.specs.Plan.{coefficients, coPhases, Name, B, B′, Column, W¹, byRank, reached, layerOf, plan}
+use Rattle.panels.specs.Panels.{coefficients, coPhases, Name, B, B′, Column, W¹, byRank, reached, layerOf, plan}
+use Rattle.panels.specs.Panels.{InRange}
 use Rattle.panels.proofs.InRange.{set, v-some, v-few, mode-two, four-panels}
 
 -- ---- co-phases, for any panels

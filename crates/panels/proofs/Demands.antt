@@ -5,8 +5,7 @@ use Prim.Native.Nat.{ℕ}
 use Rattle.plan.specs.Demands.{Demands}
 use Rattle.plan.proofs.Demands.{demanded}
 use Rattle.panels.specs.declared.PanelReport.{PanelReport}
-use Rattle.panels.specs.Rules.{InRange}
-use Rattle.panels.specs.Panels.{panels}
+use Rattle.panels.specs.Panels.{InRange, panels}
 use Rattle.panels.proofs.Lawful.{panels-lawful}
 
 -- of every report, beam mask and rank mask

@@ -14,8 +14,7 @@ use Rattle.ground.proofs.Booleans.{cond-both, or-false}
 use Rattle.ground.proofs.First.{first-none}
 use Rattle.ground.proofs.Tests.{or-cases, and-right}
 use Rattle.panels.specs.declared.PanelReport.{PanelReport}
-use Rattle.panels.specs.Rules.{modeFits, rankFits, i14Values, i2Values, outside, rule, InRange}
-use Rattle.panels.specs.Panels.{ownOrder}
+use Rattle.panels.specs.Panels.{modeFits, rankFits, i14Values, i2Values, outside, rule, InRange, ownOrder}
 use Rattle.panels.proofs.Known.{Known, known}
 
 pub in-range : (r : PanelReport) → None (rule r) ownOrder → InRange r

@@ -14,7 +14,7 @@ use Rattle.turn.specs.Phase.{turn, thirtySecond}
 use Rattle.settings.specs.Settings.{settings, isSetting, ports, across, down, sizesOf}
 use Rattle.settings.specs.Ranges.{kTwo}
 use Rattle.settings.proofs.Known.{at-setting}
-use Rattle.panels.specs.Rules.{panelSettings, isPanelSetting, panelPorts, kThreeFour, panelRows}
+use Rattle.panels.specs.Panels.{panelSettings, isPanelSetting, panelPorts, kThreeFour, panelRows}
 
 module _ (ng n1 n2 : ℕ) where
   -- a test that passes at every setting passes at this one

@@ -16,9 +16,7 @@ use Rattle.settings.proofs.Known.{mask-bits}
 use Rattle.plan.specs.Plan.{layerAt}
 use Rattle.plan.specs.Lawful.{Lawful}
 use Rattle.panels.specs.declared.PanelReport.{PanelReport}
-use Rattle.panels.specs.Rules.{InRange}
-use Rattle.panels.specs.Plan.{Name, B, B′, beamOf, byRank, layerOf, plan}
-use Rattle.panels.specs.Panels.{beamBit, bitsRead, panels}
+use Rattle.panels.specs.Panels.{Name, B, B′, beamOf, byRank, layerOf, plan, InRange, beamBit, bitsRead, panels}
 use Rattle.panels.proofs.InRange.{set, in-range, in-range-none}
 use Rattle.panels.proofs.Columns.{column, layer-is, within}
 use Rattle.panels.proofs.Sound.{plan-sound}

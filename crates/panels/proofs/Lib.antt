@@ -6,6 +6,7 @@ pub mod Columns
 pub mod Sound
 pub mod Lawful
 pub mod Asked
+pub mod Codes
 pub mod Drawn
 pub mod Unique
 pub mod Demands

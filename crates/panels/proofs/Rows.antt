@@ -11,8 +11,7 @@ use Rattle.ground.proofs.Tests.{and-left, and-right, every-at}
 use Rattle.settings.specs.declared.Beam.{Beam}
 use Rattle.settings.specs.Ranges.{beam, kTwo}
 use Rattle.panels.specs.declared.PanelReport.{PanelReport}
-use Rattle.panels.specs.Rules.{panelSettings, kThreeFour, panelRows, InRange}
-use Rattle.panels.specs.Plan.{kOf}
+use Rattle.panels.specs.Panels.{panelSettings, kThreeFour, panelRows, kOf, InRange}
 use Rattle.panels.proofs.Known.{at-panels}
 use Rattle.panels.proofs.InRange.{v-few}
 

@@ -17,8 +17,8 @@ use Rattle.plan.specs.Plan.{layerAt}
 use Rattle.plan.specs.Sound.{StepsFrom, Told, by-co-phases, by-beams, Sound}
 use Rattle.plan.proofs.Told.{twoBeams, two-beams}
 use Rattle.panels.specs.declared.PanelReport.{PanelReport}
-use Rattle.panels.specs.Rules.{panelSettings, kThreeFour, panelRows, InRange}
-use Rattle.panels.specs.Plan.{coefficients, Name, B, B′, Column, beamOf, minus, byRank, kOf, offset, reached, layerOf, plan}
+use Rattle.panels.specs.Panels.{panelSettings, kThreeFour, panelRows, coefficients, Name, B, B′, Column, beamOf}
+use Rattle.panels.specs.Panels.{minus, byRank, kOf, offset, reached, layerOf, plan, InRange}
 use Rattle.panels.proofs.Known.{at-panels}
 use Rattle.panels.proofs.InRange.{set, v-some, v-few}
 use Rattle.panels.proofs.Columns.{co-flipped, marks-even, length-co, co-eighths, column, panel-each, length-layers}

@@ -7,10 +7,9 @@ use Rattle.settings.specs.Ranges.{kTwo}
 use Rattle.plan.specs.declared.Record.{Record}
 use Rattle.plan.proofs.Worked.{Row, ones, accepts, differs, refuses, ranked, said, definedBy}
 use Rattle.panels.specs.declared.PanelReport.{PanelReport}
-use Rattle.panels.specs.Rules.{panelSettings, isPanelSetting, modeFits, rankFits, kThreeFour, panelRows, i14Values, i2Values}
-use Rattle.panels.specs.Rules.{outside, rule}
-use Rattle.panels.specs.Plan.{coefficients, coPhases, byRank, reached, layerOf}
-use Rattle.panels.specs.Panels.{bitsRead, panels}
+use Rattle.panels.specs.Panels.{panelSettings, isPanelSetting, modeFits, rankFits, kThreeFour, panelRows}
+use Rattle.panels.specs.Panels.{coefficients, coPhases, byRank, reached, layerOf, i14Values, i2Values, outside}
+use Rattle.panels.specs.Panels.{rule, bitsRead, panels}
 
 -- three numbers
 abbrev three : ℕ → ℕ → ℕ → List ℕ

@@ -15,9 +15,7 @@ ghost use Rattle.ground.specs.Cases.{_⇒_∣_};
 ghost use Rattle.turn.specs.Phase.{turn, quarter, phase};
 ghost use Rattle.settings.specs.Settings.{sizesOf};
 ghost use Rattle.masks.specs.Asks.{Asks};
-ghost use Rattle.panels.specs.Rules.{InRange};
-ghost use Rattle.panels.specs.Plan.{B′, kOf, reached};
-ghost use Rattle.panels.specs.Panels.{indices, panels};
+ghost use Rattle.panels.specs.Panels.{B′, kOf, reached, InRange, indices, panels};
 ghost use Rattle.panels.specs.Drawing.{HasBeams, codesOf, quartersOf, inParts, drawingOf};
 
 // The codes of one to four layers: 512 for B', 256 for the co-phases, and 170 where half a turn is added to the second
@@ -86,7 +84,7 @@ fn beams_of(v: u32) -> u32
 // What the report asks of the masks and the buffer; where it is in range, with B and B'.
 pub fn needs_of(r: PanelReport, s: Sizes) -> Needs
     requires { ⌜ s ≡ sizesOf (r .n1) (r .n2) ⌝ }
-    ensures { λ x. ⌜ Asks panels r indices x × (x .refusal ≡ 0 → HasBeams r x) ⌝ }
+    ensures { λ x. ⌜ Asks panels r indices x × (x .refusal ≡ 0 → HasBeams r x) × (x .count ≤ 2) ⌝ }
 {
     let k = rules::refusal(r, s);
     if k != 0 {

@@ -4,8 +4,7 @@ use plan::Record;
 use turn::Part;
 ghost use mathlib.Core.Path.{_≡_};
 ghost use Rattle.plan.specs.Answer.{planned, asked, refusal, judgedBy, PhasesLeft, WeightsLeft};
-ghost use Rattle.panels.specs.Plan.{plan};
-ghost use Rattle.panels.specs.Panels.{panels};
+ghost use Rattle.panels.specs.Panels.{plan, panels};
 ghost use Rattle.panels.specs.Drawing.{drawingOf};
 
 mod layers;
@@ -33,7 +32,7 @@ fn judge(r: PanelReport, mask: &[u8], ranks: u8, room: usize) -> Judged
 {
     let s = settings::sizes_of(r.n1, r.n2);
     let x = layers::needs_of(r, s);
-    let k = masks::admit(x, mask, ranks, room);
+    let k = masks::admit_two(x, mask, ranks, room);
     if k != 0 {
         return plan::refuse(k);
     }
@@ -65,8 +64,7 @@ pub fn phases(r: PanelReport, mask: &[u8], ranks: u8, out: &mut [Part]) -> Recor
 }
 
 // Writes the weights of a report's precoder: for each entry that `phases` writes, x and then y, the pair of the table at
-// its phase. Masks and refusals are those of `phases`, and 11 asks for 2·v·P numbers. Where P divides 16, all phases are
-// whole 32nds of a turn.
+// its phase. Masks and refusals are those of `phases`, and 11 asks for 2·v·P numbers. All phases are whole 32nds of a turn.
 pub fn weights(r: PanelReport, mask: &[u8], ranks: u8, out: &mut [i16]) -> Record
     ensures { λ a. ⌜ WeightsLeft panels r (now (mask .entry)) ranks (now (out .entry)) a (now (out .exit)) ⌝ }
 {
@@ -74,6 +72,6 @@ pub fn weights(r: PanelReport, mask: &[u8], ranks: u8, out: &mut [i16]) -> Recor
     if c.given.refusal != 0 {
         return c.given;
     }
-    render::weights(c.drawing, 16 % c.given.ports == 0, out);
+    render::coarse_weights(c.drawing, out);
     c.given
 }

@@ -8,8 +8,8 @@ ghost use lib.Dec.{eqb};
 ghost use Rattle.ground.specs.Cases.{_⇒_∣_};
 ghost use Rattle.ground.specs.First.{first};
 ghost use Rattle.settings.specs.Settings.{sizesOf};
-ghost use Rattle.panels.specs.Rules.{isPanelSetting, modeFits, rankFits, i14Values, i2Values, outside, rule};
-ghost use Rattle.panels.specs.Panels.{ownOrder, indices};
+ghost use Rattle.panels.specs.Panels.{isPanelSetting, modeFits, rankFits, i14Values, i2Values, outside, rule};
+ghost use Rattle.panels.specs.Panels.{indices, ownOrder};
 
 // Two panels or four.
 fn is_two_or_four(ng: u32) -> bool

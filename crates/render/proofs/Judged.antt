@@ -41,7 +41,7 @@ module _ {R : Type 0} (b : Codebook R) {InRange : R → Type 0} (lawful : Lawful
     accepted : (number ≡ 0) × (c .given ≡ planned plan) × (c .drawing ≡ drawingOf r)
     accepted = answers.judged-accepted number (planned plan) refl (drawingOf r) e z
 
-    in-range : InRange r
+    pub in-range : InRange r
     in-range = accepted-in-range b lawful r mask ranks room (accepted .0)
 
     sound : Sound plan
@@ -58,6 +58,10 @@ module _ {R : Type 0} (b : Codebook R) {InRange : R → Type 0} (lawful : Lawful
     pub ports-some : 1 ≤ c .given .ports
     ports-some = rw (accepted .1) (written.ports-some plan sound)
 
+    -- where the ports divide 16, the coarse table serves
+    pub coarse-plan : 16 % c .given .ports ≡ 0 → written.Coarse plan
+    coarse-plan d = written.ports-coarse plan sound (rw (accepted .1) at d)
+
     -- what is written is the answer of `phases`
     pub phases-answer : {lent left : List ℕ} → length lent ≡ room → left ≡ over (fitting (c .drawing) (length lent)) lent
         → Answers number (planned plan) (matrix plan) lent (c .given) left
@@ -66,11 +70,11 @@ module _ {R : Type 0} (b : Codebook R) {InRange : R → Type 0} (lawful : Lawful
         answers.answers-accepted number (planned plan) refl (drawingOf r) e z (matrix plan) lent _ refl (rw is at f)
 
     -- and of `weights`
-    pub weights-answer : {lent left : List ℤ} (coarse : Bool) → (coarse ≡ true → 16 % c .given .ports ≡ 0)
+    pub weights-answer : {lent left : List ℤ} (coarse : Bool) → (coarse ≡ true → written.Coarse plan)
         → length lent / 2 ≡ room → left ≡ over (weightsIn (c .drawing) coarse (length lent)) lent
         → Answers number (planned plan) (weightsOf b r) lent (c .given) left
     unfolding weightsOf
     weights-answer {lent} coarse d l f =
-        let are = written.weights-are plan (c .drawing) sound draws coarse (λ t. rw (accepted .1) at (d t)) (length lent)
+        let are = written.weights-are plan (c .drawing) sound draws coarse d (length lent)
         (omega (arith, fits)) in
         answers.answers-accepted number (planned plan) refl (drawingOf r) e z (weightsOf b r) lent _ refl (rw are at f)

@@ -1,4 +1,4 @@
--- The drawing of a sound plan: what is written of it is the matrix, and where P divides 16 in whole 32nds of a turn.
+-- The drawing of a sound plan: what is written of it is the matrix, in whole 32nds of a turn where the plan is coarse.
 use mathlib.Core.Path.{_≡_, refl, sym, ap, _∙_}
 use mathlib.Core.Bool.{Bool, true, false}
 use mathlib.Core.List.{List, [], _∷_, map}
@@ -10,7 +10,7 @@ use borrow.Author.Needs.{needs}
 use borrow.Author.Tests.{le-leb}
 use Rattle.ground.specs.Lists.{join, all-nil}
 use Rattle.ground.proofs.All.{all-append, all-each}
-use Rattle.turn.specs.Phase.{eighth, thirtySecond}
+use Rattle.turn.specs.Phase.{turn, eighth, thirtySecond}
 use Rattle.turn.specs.Column.{step, beam}
 use Rattle.turn.specs.Cancel.{Multiples}
 use Rattle.turn.proofs.Steps.{left-pos}
@@ -39,6 +39,20 @@ module _ (p : Plan) (sound : Sound p) where
       let block = mul-le-mul rows-some columns-some in
       omega (arith, sound .all, mul-le-mul (sound .two) block)
 
+-- a plan that the coarse table serves: at most 128 entries, and steps of whole 32nds of a turn
+pub record Coarse (p : Plan) : Type 0 where
+  pub few : p .v * p .ports ≤ 128
+  pub rows : turn / (p .block .n1 * p .block .o1) % thirtySecond ≡ 0
+  pub columns : turn / (p .block .n2 * p .block .o2) % thirtySecond ≡ 0
+
+-- so is one whose ports divide 16
+pub ports-coarse : (p : Plan) → Sound p → 16 % p .ports ≡ 0 → Coarse p
+ports-coarse p sound d = record {
+  few = mul-le-mul (sound .eight) (le-of-dvd {m = p .ports} {n = 16} (omega arith) (dvd-of-mod-eq-zero (p .ports) d));
+  rows = sound .coarse d .0;
+  columns = sound .coarse d .1;
+}
+
 module _ (p : Plan) (s : Drawing) (sound : Sound p) (draws : Draws p s) where
   -- a column has an entry for each port
   height-is : height s ≡ p .ports
@@ -49,11 +63,6 @@ module _ (p : Plan) (s : Drawing) (sound : Sound p) (draws : Draws p s) where
   -- at most 8 layers of 32 ports
   entries-few : p .v * p .ports ≤ 256
   entries-few = mul-le-mul (sound .eight) (sound .few)
-
-  -- where P divides 16, at most 8 of 16
-  coarse-few : 16 % p .ports ≡ 0 → p .v * p .ports ≤ 128
-  coarse-few d =
-      mul-le-mul (sound .eight) (le-of-dvd {m = p .ports} {n = 16} (omega arith) (dvd-of-mod-eq-zero (p .ports) d))
 
   layers-are : (room : ℕ) → p .v * p .ports + 16 ≤ room → layersIn s room ≡ matrix p
   layers-are room h =
@@ -78,26 +87,25 @@ module _ (p : Plan) (s : Drawing) (sound : Sound p) (draws : Draws p s) where
   multiples-join g f (y ∷ xs) h =
       all-append (h 0 (omega arith)) (multiples-join g f xs (λ j k. h (suc j) (omega arith)))
 
-  -- where P divides 16, every phase is a whole 32nd of a turn
-  pub matrix-coarse : 16 % p .ports ≡ 0 → Multiples thirtySecond (matrix p)
+  -- where the plan is coarse, every phase is a whole 32nd of a turn
+  matrix-coarse : Coarse p → Multiples thirtySecond (matrix p)
   unfolding matrix columnOf beam
   matrix-coarse d =
       let c = p .block in
-      let steps = sound .coarse d in
       multiples-join thirtySecond (columnOf p) (p .layers)
       (λ j k.
       multiples-column thirtySecond refl
       (all-each (λ x h. omega arith) (sound .eighths j (omega (arith, sound .many))))
       (multiples-grid thirtySecond (c .n1) _ (c .n2) _
-      (step-multiple thirtySecond (c .n1) (c .o1) (layerAt p j .l) (steps .0))
-      (step-multiple thirtySecond (c .n2) (c .o2) (layerAt p j .m) (steps .1))))
+      (step-multiple thirtySecond (c .n1) (c .o1) (layerAt p j .l) (d .rows))
+      (step-multiple thirtySecond (c .n2) (c .o2) (layerAt p j .m) (d .columns))))
 
   -- by either table the weights of the matrix are written
-  pub weights-are : (coarse : Bool) → (coarse ≡ true → 16 % p .ports ≡ 0) → (room : ℕ) → p .v * p .ports ≤ room / 2
+  pub weights-are : (coarse : Bool) → (coarse ≡ true → Coarse p) → (room : ℕ) → p .v * p .ports ≤ room / 2
       → weightsIn s coarse room ≡ numbers (map weight (matrix p))
   unfolding weightsIn
   weights-are true d room h =
-      rw (layers-are 144 (omega (arith, coarse-few (d refl))), le-leb (length (matrix p)) (room / 2) (omega (arith, length-matrix p sound)))
+      rw (layers-are 144 (omega (arith, d refl .few)), le-leb (length (matrix p)) (room / 2) (omega (arith, length-matrix p sound)))
       (weighed-same thirtySecond (matrix-coarse (d refl)))
   weights-are false d room h =
       rw (layers-are 272 (omega (arith, entries-few)), le-leb (length (matrix p)) (room / 2) (omega (arith, length-matrix p sound)))

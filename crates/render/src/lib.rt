@@ -3,6 +3,7 @@ use plan::Drawing;
 use turn::Part;
 use weight::Weight;
 ghost use mathlib.Core.Path.{_≡_};
+ghost use mathlib.Core.Bool.{true};
 ghost use lib.ListN.{length, take};
 ghost use Rattle.ground.specs.Lists.{over};
 ghost use Rattle.render.specs.Rendered.{fitting, weighedIn, weightsIn};
@@ -81,4 +82,14 @@ pub fn weights(s: Drawing, coarse: bool, out: &mut [i16])
     let n = writer::matrix(s, &mut long);
     let table = Weight::table();
     expand(&table, 1, &long, n, out);
+}
+
+// The same with `coarse`, for a codebook that has no other phases: a function with one caller costs it less.
+pub fn coarse_weights(s: Drawing, out: &mut [i16])
+    ensures { λ _. ⌜ now (out .exit) ≡ over (weightsIn s true (length (now (out .entry)))) (now (out .entry)) ⌝ }
+{
+    let mut short = [0; ROOM_FOR_COARSE];
+    let n = writer::matrix(s, &mut short);
+    let table = Weight::coarse();
+    expand(&table, COARSE_STEP, &short, n, out);
 }

@@ -1,30 +1,54 @@
 -- `judge` meets its contract: the shared refusals among the report's own are the codebook's.
-use mathlib.Core.Path.{_≡_, sym, _∙_}
+use mathlib.Core.Path.{_≡_, sym, ap, _∙_}
+use mathlib.Core.Bool.{cond}
+use Prim.Native.Nat.{_≤_}
 use native.Mathlib.Omega.{arith}
+use lib.Dec.{ltb}
+use borrow.Author.Tests.{ltb-true}
+use Rattle.ground.proofs.Booleans.{either}
 use borrow.Author.Needs.{needs}
 use denote.Ref.{now}
 use Rattle.plan.specs.Answer.{asked, refusal}
 use Rattle.plan.proofs.Answers.{refused-judged}
 use Rattle.plan.proofs.Accepted.{accepted-in-range}
+use Rattle.masks.specs.declared.Needs.{Needs}
+use Rattle.masks.specs.Admitted.{admitted, upToTwo}
 use Rattle.masks.proofs.Refused.{admitted-refusal}
-use Rattle.panels.specs.Rules.{InRange}
-use Rattle.panels.specs.Panels.{indices, panels}
+use Rattle.panels.specs.Panels.{InRange, indices, panels}
 use Rattle.panels.proofs.InRange.{in-range-zero}
 use Rattle.panels.proofs.Lawful.{panels-lawful}
 use Rattle.panels.proofs.Asked.{ports-are, ports-few}
 use Rattle.panels.proofs.judge.Statement.{statement}
 use Rattle.panels.proofs.judge.Tie as tie
 
-abbrev start : tie.After-admit → tie.Start
+abbrev start : tie.After-admit-two → tie.Start
 start c = c .before .before .before .before
 
+-- at most two beams are handed over
+few-beams : (x : Needs) → x .count ≤ 2 → upToTwo x ≡ x
+few-beams x h =
+    let same : cond (ltb 1 (x .count)) 2 (x .count) ≡ x .count =
+    either (ltb 1 (x .count)) (λ e. rw e (omega (arith, ltb-true 1 (x .count) e))) (λ e. rw e) in
+    λ i. record {
+      refusal = x .refusal;
+      bytes = x .bytes;
+      v = x .v;
+      entries = x .entries;
+      count = same i;
+      width = x .width;
+      l = x .l;
+      m = x .m;
+    }
+
 -- the number that is given is the codebook's refusal
-number : (c : tie.After-admit) → let a = start c .args in
-    c .admit .result ≡ refusal panels (asked (a .r) (now (a .mask)) (a .ranks) (a .room))
+number : (c : tie.After-admit-two) → let a = start c .args in
+    c .admit-two .result ≡ refusal panels (asked (a .r) (now (a .mask)) (a .ranks) (a .room))
 number c =
     let a = start c .args in
-    c .admit .ensures
-    ∙ admitted-refusal panels (a .r) (now (a .mask)) (a .ranks) (a .room) indices _ (c .before .needs-of .ensures .0)
+    let x = c .before .needs-of .result in
+    c .admit-two .ensures
+    ∙ ap (λ (y : Needs). admitted y (now (a .mask)) (a .ranks) (a .room)) (few-beams x (c .before .needs-of .ensures .2))
+    ∙ admitted-refusal panels (a .r) (now (a .mask)) (a .ranks) (a .room) indices x (c .before .needs-of .ensures .0)
 
 module _ (c : tie.Else1) where
   -- where it is 0 the report is in range
@@ -38,7 +62,7 @@ module _ (c : tie.Else1) where
 
 returns : tie.Need-returns
 returns c =
-    c .refuse .ensures ∙ refused-judged _ _ (c .before .before .admit .result) _ (c .before .if1 .taken) (number (c .before .before))
+    c .refuse .ensures ∙ refused-judged _ _ (c .before .before .admit-two .result) _ (c .before .if1 .taken) (number (c .before .before))
 
 drawing-of-requires : tie.Need-drawing-of-requires
 drawing-of-requires c κs =

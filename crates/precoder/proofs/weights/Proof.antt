@@ -19,8 +19,10 @@ rem-weights c = judged.ports-some single single-lawful drawingOf drawing-draws _
 returns-2 : tie.Need-returns-2
 returns-2 c =
     let e = c .before .before .before .before .before in
-    judged.weights-answer single single-lawful drawingOf drawing-draws _ _ _ _ (e .before .before .judge .ensures) (e .if1 .left) _ (eqb-true _ 0) refl
-    (c .before .before .weights .ensures)
+    let p = e .before .before .judge .ensures in
+    judged.weights-answer single single-lawful drawingOf drawing-draws _ _ _ _ p (e .if1 .left) _
+    (λ t. judged.coarse-plan single single-lawful drawingOf drawing-draws _ _ _ _ p (e .if1 .left) (eqb-true _ 0 t))
+    refl (c .before .before .weights .ensures)
 
 pub weights-spec : {M : Type 1} → statement M
 weights-spec = tie.close (tie.spec (λ c κs. search needs) returns rem-weights (λ c κs. search needs) (λ c. search needs) returns-2)

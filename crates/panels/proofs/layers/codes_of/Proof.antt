@@ -3,7 +3,7 @@ use mathlib.Core.Path.{_≡_, sym, ap}
 use mathlib.Core.Logic.{_≢_}
 use Prim.Native.Nat.{ℕ}
 use native.Mathlib.Omega.{arith}
-use Rattle.panels.specs.Plan.{byRank}
+use Rattle.panels.specs.Panels.{byRank}
 use Rattle.panels.specs.Drawing.{codesOf}
 use Rattle.panels.proofs.layers.codes_of.Statement.{statement}
 use Rattle.panels.proofs.layers.codes_of.Tie as tie

@@ -7,7 +7,7 @@ use lib.ListN.{getD}
 use borrow.Author.Needs.{needs}
 use Rattle.settings.proofs.Known as one
 use Rattle.settings.proofs.Steps.{Sized, sized}
-use Rattle.panels.specs.Plan.{Name, B, B′, reached}
+use Rattle.panels.specs.Panels.{Name, B, B′, reached}
 use Rattle.panels.specs.Drawing.{drawingOf}
 use Rattle.panels.proofs.InRange.{set, v-some, v-few}
 use Rattle.panels.proofs.Columns.{within}

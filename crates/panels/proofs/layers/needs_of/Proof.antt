@@ -2,9 +2,9 @@
 use mathlib.Core.Path.{_≡_, refl, sym, _∙_}
 use native.Mathlib.Omega.{arith}
 use borrow.Author.Needs.{needs}
-use Rattle.panels.specs.Rules.{InRange}
+use Rattle.panels.specs.Panels.{InRange}
 use Rattle.panels.proofs.InRange.{in-range-zero, zero-in-range}
-use Rattle.panels.proofs.Asked.{ports-few, entries-few, bits-are, has-beams, asks}
+use Rattle.panels.proofs.Asked.{ports-few, entries-few, bits-are, has-beams, few-beams, asks}
 use Rattle.panels.proofs.layers.needs_of.Statement.{statement}
 use Rattle.panels.proofs.layers.needs_of.Tie as tie
 
@@ -17,6 +17,7 @@ returns c =
     (
       asks _ (c .before .before .pre) _ k refl refl (λ h. absurd (c .if1 .taken (k ∙ in-range-zero _ h))),
       λ z. absurd (c .if1 .taken z),
+      omega arith,
     )
 
 second-beam-requires : tie.Need-second-beam-requires
@@ -41,6 +42,7 @@ returns-2 c =
     let count = c .before .before .before .beams-of .ensures in (
       asks _ p _ (sym (e .if1 .left) ∙ e .before .refusal .ensures) refl refl (λ h. (bits-are _ p h count other, refl)),
       λ z. has-beams _ p h _ other refl refl,
+      rw count (few-beams (e .before .before .args .r .v)),
     )
 
 pub needs-of-spec : {M : Type 1} → statement M

@@ -7,7 +7,7 @@ use Rattle.settings.specs.declared.Beam.{Beam}
 use Rattle.settings.specs.Ranges.{beam}
 use Rattle.settings.proofs.Known as one
 use Rattle.settings.proofs.Steps.{Sized, sized, step-across, step-down}
-use Rattle.panels.specs.Plan.{reached}
+use Rattle.panels.specs.Panels.{reached}
 use Rattle.panels.proofs.InRange.{set}
 use Rattle.panels.proofs.Rows.{Row, row-right}
 use Rattle.panels.proofs.layers.second_beam.Statement.{statement}

@@ -1,6 +1,6 @@
 -- `rules::i14_values` meets its contract: its tests are those of the definition.
 use borrow.Author.Tests.{eq-eqb, ne-eqb}
-use Rattle.panels.specs.Rules.{i14Values}
+use Rattle.panels.specs.Panels.{i14Values}
 use Rattle.panels.proofs.rules.i14_values.Statement.{statement}
 use Rattle.panels.proofs.rules.i14_values.Tie as tie
 

@@ -1,7 +1,7 @@
 -- `rules::i2_values` meets its contract: its test is that of the definition.
 use borrow.Author.Needs.{needs}
 use borrow.Author.Tests.{eq-eqb, ne-eqb}
-use Rattle.panels.specs.Rules.{i2Values}
+use Rattle.panels.specs.Panels.{i2Values}
 use Rattle.panels.proofs.rules.i2_values.Statement.{statement}
 use Rattle.panels.proofs.rules.i2_values.Tie as tie
 

@@ -1,6 +1,6 @@
 -- `rules::is_mode` meets its contract: its tests are those of the definition.
 use borrow.Author.Tests.{eq-eqb, ne-eqb}
-use Rattle.panels.specs.Rules.{modeFits}
+use Rattle.panels.specs.Panels.{modeFits}
 use Rattle.panels.proofs.rules.is_mode.Statement.{statement}
 use Rattle.panels.proofs.rules.is_mode.Tie as tie
 

@@ -1,7 +1,7 @@
 -- `rules::is_outside` meets its contract: its tests are those of the definition.
 use borrow.Author.Needs.{needs}
 use borrow.Author.Tests.{le-leb, lt-leb}
-use Rattle.panels.specs.Rules.{outside}
+use Rattle.panels.specs.Panels.{outside}
 use Rattle.panels.proofs.rules.is_outside.Statement.{statement}
 use Rattle.panels.proofs.rules.is_outside.Tie as tie
 

@@ -12,8 +12,7 @@ use Rattle.ground.proofs.Booleans.{cond-each}
 use Rattle.settings.specs.declared.Sizes.{Sizes}
 use Rattle.settings.specs.Settings.{across, down, ports, sizesOf}
 use Rattle.panels.specs.declared.PanelReport.{PanelReport}
-use Rattle.panels.specs.Rules.{isPanelSetting, panelRows, i14Values, i2Values, outside, rule}
-use Rattle.panels.specs.Panels.{indices}
+use Rattle.panels.specs.Panels.{isPanelSetting, panelRows, i14Values, i2Values, outside, rule, indices}
 use Rattle.panels.proofs.Known.{known}
 use Rattle.panels.proofs.rules.on_indices.Statement.{statement}
 use Rattle.panels.proofs.rules.on_indices.Tie as tie

@@ -6,7 +6,7 @@ use borrow.Author.Tests.{eq-eqb, ne-eqb, lt-ltb, le-ltb, not-true, not-false}
 use Rattle.ground.specs.First.{first}
 use Rattle.settings.specs.declared.Sizes.{Sizes}
 use Rattle.panels.specs.declared.PanelReport.{PanelReport}
-use Rattle.panels.specs.Rules.{isPanelSetting, modeFits, rankFits, rule}
+use Rattle.panels.specs.Panels.{isPanelSetting, modeFits, rankFits, rule}
 use Rattle.panels.proofs.Known.{byPorts, by-ports}
 use Rattle.panels.proofs.rules.on_setting.Statement.{statement}
 use Rattle.panels.proofs.rules.on_setting.Tie as tie

@@ -7,8 +7,7 @@ use borrow.Author.Tests.{not-false}
 use Rattle.ground.specs.First.{first, numbered, None}
 use Rattle.ground.specs.Lists.{among}
 use Rattle.ground.proofs.First.{first-none, first-stop, none-first}
-use Rattle.panels.specs.Rules.{isPanelSetting, rule}
-use Rattle.panels.specs.Panels.{indices}
+use Rattle.panels.specs.Panels.{isPanelSetting, rule, indices}
 use Rattle.panels.proofs.rules.refusal.Statement.{statement}
 use Rattle.panels.proofs.rules.refusal.Tie as tie
 
