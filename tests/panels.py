@@ -1,0 +1,237 @@
+#!/usr/bin/env python3
+"""Tests aspenflick_panel_phases and aspenflick_panel_weights against the complex matrices of TS 38.214, 5.2.2.2.2.
+
+    panels.py COMMAND..
+
+COMMAND starts the program built from batch.c, which calls one of the two functions for each request on its standard
+input. The last line is `N passed, M failed`; the exit status is 0 only if N is above 0 and M is 0, and 2 for wrong words.
+Needs Python 3.9; takes about a minute. tests/panels builds the program and starts this.
+
+Where the expected answers come from
+------------------------------------
+Phases: a layer is computed in complex numbers as the standard prints it, with its factor 1/sqrt(P), block by block: a
+product of phi, a_p and b_n, each an exponential, times v_{l,m}. The phase of an entry is read off its angle in 1/192
+turns. No phase is computed in whole numbers. The factor 1/sqrt(v) of the whole matrix turns no entry.
+Weights: the same complex entries without their factor, times 16384, each part taken to the nearest whole number, not by
+way of the phase.
+
+The rules come from 000, a later excerpt of TS 38.214, which has all of 5.2.2.2.2; 002 and 003 have it too, with slips,
+and 000 decides. Which is from where:
+
+From 000:
+  - the settings (Ng,N1,N2) with their O1, O2 and P (Table 5.2.2.2.2-1), and P = 2 Ng N1 N2. 002 and 003 have 16 and 32
+    some rows too low, against the text above the table;
+  - the modes: 1 and 2 for two panels, 1 for four; the ranks, 1 to 4;
+  - k1 and k2 of 3 and 4 layers (Table -2). 003 has 0, 0 and O2, 0 in row 1 of (2,2) and (4,2), where 000 and 002 have
+    0, O2;
+  - phi_n, a_p, b_n, u_m and v_{l,m}; phi_n, u_m and v_{l,m} are those of 5.2.2.2.1, and precoder.py has them;
+  - W^{1,2,1}, W^{2,2,1}, W^{1,4,1}, W^{2,4,1}, W^{1,2,2} and W^{2,2,2}, whose rows are the ports; W of 1 to 4 layers,
+    and how many values an index has (Tables -3 to -6). 002 prints i12 + k1 for l', and for 2 layers no i12 + k2; 003
+    prints neither l' nor m';
+  - which numbers of i14 and i2 a mode uses, and how many panels have which;
+  - the mask bits: how many, and which of them bars which precoder; bit v-1 of the rank mask, r_{v-1}, of four.
+From Table 5.2.2.2.1-3, in 003 and in 01: k1 and k2 of 2 layers.
+From 01, where 000 is silent: all that precoder.py has from there of records, masks, phases, weights and buffers; that
+an index without use has the value 0 alone, here i13 with 1 layer and i12 where N2 = 1.
+From 02, where 000 is silent: the new refusal 12, of an i14 number, between 8 and 9; that 1 covers Ng, 2 mode 2 with four
+panels, and 4 a rank above 4; that i14 and i2 are three numbers each, those without use 0.
+
+What is sent and what is asked of the answers
+---------------------------------------------
+harness.py says it. Longer and shorter buffers and masks are tried for one report of eight, another one of each eight in
+turn: every i11, i12 and i13 of every setting, mode and rank is among them, which is tested. Numbers that are no setting
+are all up to 9 x 17 x 9, and others.
+Reports have only phases that are multiples of 6, which is tested. The weights of the other phases are in no answer.
+"""
+
+import cmath
+import collections
+import functools
+import sys
+
+from harness import TURN, Codebook, Known, functions, main, near
+from precoder import Beam, bits_of_beam, block, mask_bits, phi, table_3, v_beam
+
+# ---- Settings --------------------------------------------------------------------------------------------------------
+
+Setting = collections.namedtuple('Setting', 'Ng N1 N2 O1 O2 P')
+
+# Table 5.2.2.2.2-1: P, (Ng, N1, N2) and (O1, O2).
+TABLE_1 = [(8, (2, 2, 1), (4, 1)),
+           (16, (2, 4, 1), (4, 1)),
+           (16, (4, 2, 1), (4, 1)),
+           (16, (2, 2, 2), (4, 4)),
+           (32, (2, 8, 1), (4, 1)),
+           (32, (4, 4, 1), (4, 1)),
+           (32, (2, 4, 2), (4, 4)),
+           (32, (4, 2, 2), (4, 4))]
+
+SETTINGS = {numbers: Setting(*numbers, *oversampling, P) for P, numbers, oversampling in TABLE_1}
+
+
+def modes_of(s):
+    return {2: (1, 2), 4: (1,)}[s.Ng]
+
+
+def ranks_of(s):
+    return 1, 2, 3, 4
+
+
+# ---- Quantities ------------------------------------------------------------------------------------------------------
+
+def a(p):
+    return cmath.exp(1j * cmath.pi / 4) * cmath.exp(1j * cmath.pi * p / 2)
+
+
+def b(n):
+    return cmath.exp(-1j * cmath.pi / 4) * cmath.exp(1j * cmath.pi * n / 2)
+
+
+# ---- k1 and k2, in multiples of O1 and O2 ----------------------------------------------------------------------------
+
+# Table 5.2.2.2.2-2, 3 and 4 layers.
+TABLE_2 = {(2, 1): [(1, 0)],
+           (4, 1): [(1, 0), (2, 0), (3, 0)],
+           (8, 1): [(1, 0), (2, 0), (3, 0), (4, 0)],
+           (2, 2): [(1, 0), (0, 1), (1, 1)],
+           (4, 2): [(1, 0), (0, 1), (1, 1), (2, 0)]}
+
+
+def k_rows(s, v):
+    """The rows of k by i13; one layer has no k."""
+    return [None] if v == 1 else table_3(s.N1, s.N2) if v == 2 else TABLE_2[s.N1, s.N2]
+
+
+# ---- Layers: W^{1,Ng,mode} and W^{2,Ng,mode}, by the coefficients of their blocks -------------------------------------
+
+# By the upper numbers of W.
+COEFFICIENTS = {
+    (1, 2, 1): lambda p, n: [1, phi(n[0]),
+                             phi(p[0]), phi(n[0]) * phi(p[0])],
+    (2, 2, 1): lambda p, n: [1, -phi(n[0]),
+                             phi(p[0]), -phi(n[0]) * phi(p[0])],
+    (1, 4, 1): lambda p, n: [1, phi(n[0]),
+                             phi(p[0]), phi(n[0]) * phi(p[0]),
+                             phi(p[1]), phi(n[0]) * phi(p[1]),
+                             phi(p[2]), phi(n[0]) * phi(p[2])],
+    (2, 4, 1): lambda p, n: [1, -phi(n[0]),
+                             phi(p[0]), -phi(n[0]) * phi(p[0]),
+                             phi(p[1]), -phi(n[0]) * phi(p[1]),
+                             phi(p[2]), -phi(n[0]) * phi(p[2])],
+    (1, 2, 2): lambda p, n: [1, phi(n[0]),
+                             a(p[0]) * b(n[1]), a(p[1]) * b(n[2])],
+    (2, 2, 2): lambda p, n: [1, -phi(n[0]),
+                             a(p[0]) * b(n[1]), -a(p[1]) * b(n[2])]}
+
+
+@functools.lru_cache(maxsize=None)
+def coefficients(first, Ng, mode, p, n):
+    return COEFFICIENTS[first, Ng, mode](p, n)
+
+
+@functools.lru_cache(maxsize=None)
+def layer(s, first, mode, beam, p, n):
+    """The phases and the weights of W^{first,Ng,mode} of l, m, p and n."""
+    blocks = [block(s, 1, coefficient, beam) for coefficient in coefficients(first, s.Ng, mode, p, n)]
+    phases, weights = zip(*blocks)
+    return b''.join(phases), b''.join(weights)
+
+
+# ---- Matrices (Tables 5.2.2.2.2-3 to -6) -----------------------------------------------------------------------------
+
+# By the number of layers: for each, the first upper number of its W, and whether it has l' and m'.
+LAYERS = {1: [(1, False)],
+          2: [(1, False), (2, True)],
+          3: [(1, False), (1, True), (2, False)],
+          4: [(1, False), (1, True), (2, False), (2, True)]}
+
+Report = collections.namedtuple('Report', 'Ng N1 N2 mode v i11 i12 i13 i141 i142 i143 i20 i21 i22')
+
+
+@functools.lru_cache(maxsize=None)
+def beams(s, v, i11, i12, i13):
+    """The beams of (l, m) and of (l', m'), as the tables give them, not reduced."""
+    first = Beam(v_beam, i11, i12)
+    if v == 1:
+        return first,
+    times_O1, times_O2 = k_rows(s, v)[i13]
+    return first, Beam(v_beam, i11 + times_O1 * s.O1, i12 + times_O2 * s.O2)
+
+
+@functools.lru_cache(maxsize=None)
+def bits_of_beams(s, some):
+    return tuple(sorted({bit for beam in some for bit in bits_of_beam(s, beam)}))
+
+
+def bits_of(report):
+    """The bits of the beam mask that W reads."""
+    s = SETTINGS[report[:3]]
+    return bits_of_beams(s, beams(s, report.v, report.i11, report.i12, report.i13))
+
+
+PHASES, WEIGHTS = FUNCTIONS = functions('panel_', 2)
+
+
+def answer_of(function, report):
+    Ng, N1, N2, mode, v, i11, i12, i13, *i14_and_i2 = report
+    s, p, n = SETTINGS[Ng, N1, N2], tuple(i14_and_i2[:3]), tuple(i14_and_i2[3:])
+    of_beams, part = beams(s, v, i11, i12, i13), FUNCTIONS.index(function)
+    return b''.join([layer(s, first, mode, of_beams[primed], p, n)[part] for first, primed in LAYERS[v]])
+
+
+# ---- Ranges (headings of Tables 5.2.2.2.2-3 to -6) -------------------------------------------------------------------
+
+@functools.lru_cache(maxsize=None)
+def values(s, mode, v):
+    """How many values i11, i12, i13, the numbers of i14 and those of i2 have; 1 for a number without use (02)."""
+    i14 = {(2, 1): (4, 1, 1), (2, 2): (4, 4, 1), (4, 1): (4, 4, 4)}[s.Ng, mode]
+    n = 4 if v == 1 else 2
+    i2 = {1: (n, 1, 1), 2: (n, 2, 2)}[mode]
+    return (s.N1 * s.O1, s.N2 * s.O2, len(k_rows(s, v)), *i14, *i2)
+
+
+# Reports in range for v = 1 to 4, in mode 1 and in mode 2.
+REPORTS_IN_RANGE = {
+    (2, 2, 1): ([128, 128, 64, 64], [2048, 2048, 1024, 1024]),
+    (2, 4, 1): ([256, 512, 384, 384], [4096, 8192, 6144, 6144]),
+    (4, 2, 1): ([2048, 2048, 1024, 1024], []),
+    (2, 2, 2): ([1024, 2048, 1536, 1536], [16384, 32768, 24576, 24576]),
+    (2, 8, 1): ([512, 1024, 1024, 1024], [8192, 16384, 16384, 16384]),
+    (4, 4, 1): ([4096, 8192, 6144, 6144], []),
+    (2, 4, 2): ([2048, 4096, 4096, 4096], [32768, 65536, 65536, 65536]),
+    (4, 2, 2): ([16384, 32768, 24576, 24576], [])}
+
+
+# ---- The codebook, as the tests take it ------------------------------------------------------------------------------
+
+def near_misses(s):
+    return [(s.Ng + 256, s.N1, s.N2), (s.Ng, s.N1, s.N2 + 4), (1, s.N1, s.N2), (s.Ng, 2 ** 31 + s.N1, s.N2),
+            (s.Ng, s.N1, 0), (s.Ng + 1, s.N1, s.N2)]
+
+
+def draw_numbers(draw, s):
+    Ng, N1, N2 = s[:3]
+    return draw.choice((tuple(int(draw.random() * 9) for _ in range(3)), (N1, Ng, N2), (Ng, N2, N1),
+                        (draw.choice(near(Ng + 1)), N1, N2), (Ng, draw.choice(near(N1 + 1)), N2),
+                        (Ng, N1, draw.choice(near(N2 + 1)))))
+
+
+MULTI = Codebook(
+    functions=FUNCTIONS, Report=Report, settings=SETTINGS, most_layers=4, modes_of=modes_of, ranks_of=ranks_of,
+    refusals={'i11': 6, 'i12': 7, 'i13': 8, 'i141': 12, 'i142': 12, 'i143': 12, 'i20': 9, 'i21': 9, 'i22': 9},
+    values=values, mask_bits=mask_bits, bits_of=bits_of, answer_of=answer_of, below=(10, 18, 10),
+    extremes=[0, 2, 4, 258, 65537, 2 ** 31, 2 ** 31 + 1, 2 ** 32 - 1],
+    near_misses=near_misses, draw_numbers=draw_numbers,
+    listed=lambda s, mode, v: REPORTS_IN_RANGE[s[:3]][mode - 1][v - 1], among=8,
+    known=Known(reports=570_752, phases=42_340_864, pairs=1_548_352, reached={*range(0, TURN, 6)}, part=194_816,
+                lowest=-11_006, highest=6_213, apart=68_876, apart_at=((2, 4, 1), 4)))
+
+
+# ---- Worked cases, held against the model ----------------------------------------------------------------------------
+
+def worked_cases(tests):
+    pass
+
+
+if __name__ == '__main__':
+    sys.exit(main(MULTI, [worked_cases], __doc__, sys.argv[1:]))
