@@ -34,6 +34,7 @@ import array
 import cmath
 import collections
 import functools
+import gc
 import itertools
 import math
 import operator
@@ -114,10 +115,11 @@ class Codebook:
     below         what is no setting is tried for all numbers below these
     extremes      and for these in every place
     near_misses   of a setting: numbers near it that are no setting
+    drawn         how many random requests there are for phases; for weights half as many
     draw_numbers  of a generator and a setting: numbers that mostly are no setting
     listed        of a setting, mode and rank: how many reports are in range
     known         what is known of all reports
-    among         longer and shorter buffers, and masks, are tried for one of so many reports
+    among         of a setting, mode and rank: longer and shorter buffers, and masks, are tried for one of so many reports
     """
 
     def __init__(self, **fields):
@@ -143,22 +145,25 @@ class Codebook:
         return ((s, mode, v) for s in self.settings.values() for mode, v in self.cases(s))
 
     def reports_in_range(self, s, mode, v):
-        for indices in itertools.product(*map(range, self.values(s, mode, v))):
-            yield self.report(s, mode, v, indices)
+        fixed = [[x] for x in (*s[:self.numbers], mode, v)]
+        return map(self.Report._make, itertools.product(*fixed, *map(range, self.values(s, mode, v))))
 
-    def in_part(self, n):
-        """Whether the report in range of this place is in the part that is tried: one of each so many in turn."""
-        return n % self.among == n // self.among % self.among
+    def part_of_range(self, s, mode, v):
+        """The places of the reports in range that are tried in more ways: one of each so many, another in turn."""
+        among, count = self.among(s, mode, v), math.prod(self.values(s, mode, v))
+        return {n for n in range(count) if n % among == n // among % among}
 
     def corner_reports(self, s, mode, v):
         """Two reports in range: all indices 0, and all at their last values."""
         counts = self.values(s, mode, v)
         return [self.report(s, mode, v, [0] * len(counts)), self.report(s, mode, v, [count - 1 for count in counts])]
 
+    @functools.lru_cache(maxsize=None)
     def mask_bytes(self, s):
         """As many as the bits fill (01)."""
         return (self.mask_bits(s) + 7) // 8
 
+    @functools.lru_cache(maxsize=None)
     def mask_of(self, s, bits):
         """The mask in which exactly these bits are ones: bit k is bit k mod 8 of byte k / 8 (01)."""
         return sum(1 << k for k in bits).to_bytes(self.mask_bytes(s), 'little')
@@ -166,8 +171,8 @@ class Codebook:
     def ones(self, s):
         return b'\xff' * self.mask_bytes(s)
 
-    def ones_but(self, s, bits):
-        return self.mask_of(s, {*range(8 * self.mask_bytes(s))} - {*bits})
+    def ones_but(self, s, k):
+        return self.mask_of(s, tuple(bit for bit in range(8 * self.mask_bytes(s)) if bit != k))
 
     def refusal(self, function, report, ranks, mask, length):
         """The first refusal that applies, or 0."""
@@ -182,12 +187,13 @@ class Codebook:
             return 4
         if not ranks >> (v - 1) & 1:
             return 5
-        indices = report[self.numbers + 2:]
-        for number, index, count in zip(self.refusals.values(), indices, self.values(s, mode, v)):
-            if index >= count:
-                return number
-        if not all(mask[k // 8] >> (k % 8) & 1 for k in self.bits_of(report)):
-            return 10
+        out_of_range = map(operator.ge, report[self.numbers + 2:], self.values(s, mode, v))
+        number = next(itertools.compress(self.refusals.values(), out_of_range), None)
+        if number is not None:
+            return number
+        for k in self.bits_of(report):
+            if not mask[k // 8] >> (k % 8) & 1:
+                return 10
         if length < needed(function, s, v):
             return 11
         return 0
@@ -200,8 +206,9 @@ LENT = [bytes((fill + 37 * i) % 256 for i in range(256)) for fill in range(256)]
 MOST_LINES = 20
 
 
-def as_lent(fill, size):
-    return (LENT[fill] * (size // 256 + 1))[:size]
+def as_lent(fill, size, start=0):
+    """The bytes of a lent buffer, from a place on."""
+    return b'' if start == size else (LENT[fill] * (size // 256 + 1))[start:size]
 
 
 def numbers_of(function, data):
@@ -239,7 +246,8 @@ class Tests:
     def __init__(self, book):
         self.book, self.names, self.failures = book, [], {}
         self.head = struct.Struct(f'<B{len(book.Report._fields)}IBH')
-        self.expected = {function: collections.Counter() for function in book.functions}
+        # By the code of a function: how many requests are to be accepted or to have which refusal.
+        self.expected = [collections.Counter() for _ in range(CODES)]
         self.deepest = [0] * CODES
         self.stack = [self.begin(f'{function.name}: no call uses more than {function.most_stack:,} bytes of stack')
                       for function in book.functions]
@@ -249,7 +257,7 @@ class Tests:
     def clear(self):
         self.requests, self.answers, self.came = bytearray(), bytearray(), b''
         self.test_of, self.request_at, self.answer_at = array.array('L'), array.array('L'), array.array('L')
-        # Each function's reports in buffers just long enough, and the places of their answers among those that came.
+        # By mode and rank: each function's reports in buffers just long enough, and the places of their answers.
         self.reports = {function: [] for function in self.book.functions}
 
     def begin(self, name):
@@ -276,14 +284,15 @@ class Tests:
         self.test_of.append(test)
         self.request_at.append(len(self.requests))
         self.answer_at.append(len(self.answers))
-        self.expected[function][number] += 1
+        self.expected[function.code][number] += 1
         self.requests += self.head.pack(function.code, *report, ranks, len(mask)) + mask + TAIL.pack(length, fill)
-        lent = as_lent(fill, function.width * length)
+        size = function.width * length
         if number:
-            self.answers += RECORD.pack(number, 0, 0, 0) + b'\1' + lent
+            self.answers += RECORD.pack(number, 0, 0, 0) + b'\1' + as_lent(fill, size)
         else:
-            answer, ports = self.book.answer_of(function, report), self.book.setting_of(report).P
-            self.answers += RECORD.pack(0, ports, report.v, report.v * ports) + b'\1' + answer + lent[len(answer):]
+            answer, ports, layers = self.book.answer_of(function, report), self.book.setting_of(report).P, report.v
+            self.answers += RECORD.pack(0, ports, layers, layers * ports) + b'\1' + answer
+            self.answers += as_lent(fill, size, len(answer))
 
     def run(self, command):
         """Sends all requests since they were cleared to one process and compares all answers."""
@@ -323,7 +332,7 @@ class Tests:
 
     def report(self):
         for function, test in zip(self.book.functions, self.stack):
-            deepest, expected = self.deepest[function.code], self.expected[function]
+            deepest, expected = self.deepest[function.code], self.expected[function.code]
             if not 0 < deepest <= function.most_stack:
                 self.fail(test, f'{deepest} bytes')
             refused = ', '.join(f'{number}: {expected[number]}' for number in self.book.order)
@@ -389,17 +398,19 @@ def reports_of(tests, function, s):
     for mode, v in book.cases(s):
         tests.begin(f'{function.name}: reports of {book.name_of(s)} mode {mode} v={v}')
         length, ones, listed = needed(function, s, v), book.ones(s), book.listed(s, mode, v)
+        part, answers = book.part_of_range(s, mode, v), []
         for n, report in enumerate(book.reports_in_range(s, mode, v)):
             # No number is lent alike in the longer buffers and in the one just long enough: neither a number too many
             # nor a number too few goes unseen.
             fill = fill_for(function, length, n)
-            if book.in_part(n):
+            if n in part:
                 for more in range(1, function.parts + 1):
                     tests.add(function, report, 255, ones, length + more, fill, 0)
                     tests.add(function, report, 255, ones, length - more, fill, 11)
-            tests.reports[function].append((report, len(tests.answers)))
+            answers.append((report, len(tests.answers)))
             mask = book.mask_of(s, book.bits_of(report))
             tests.add(function, report, 1 << (v - 1), mask, length, (fill + 1 + n % 255) % 256, 0)
+        tests.reports[function].append((mode, v, answers))
         tests.check(n + 1 == listed, f'{n + 1} reports in range, {listed} are listed')
         all_reports, all_numbers = all_reports + n + 1, all_numbers + (n + 1) * length
     return all_reports, all_numbers
@@ -424,6 +435,12 @@ def every_report(tests, command):
 
 # ---- What is asked of the answers ------------------------------------------------------------------------------------
 
+def layers_in(answer, v):
+    """The bytes of each layer."""
+    size = len(answer) // v
+    return [answer[k:k + size] for k in range(0, v * size, size)]
+
+
 @functools.lru_cache(maxsize=None)
 def orthogonal(first, second):
     """Whether two layers of phases are so, exactly."""
@@ -435,10 +452,10 @@ Layer = collections.namedtuple('Layer', 'x y powers')
 
 @functools.lru_cache(maxsize=None)
 def layer_of(data):
-    """The weights of a layer, and the power of each less 16384 squared."""
+    """The weights of a layer, and the power of each less 16384 squared; the powers as bytes, which are soon hashed."""
     numbers = struct.unpack(f'<{len(data) // 2}h', data)
     x, y = numbers[::2], numbers[1::2]
-    return Layer(x, y, tuple(a * a + b * b - RADIUS ** 2 for a, b in zip(x, y)))
+    return Layer(x, y, array.array('q', [a * a + b * b - RADIUS ** 2 for a, b in zip(x, y)]).tobytes())
 
 
 @functools.lru_cache(maxsize=None)
@@ -458,6 +475,7 @@ Powers = collections.namedtuple('Powers', 'lowest highest lowest_port highest_po
 @functools.lru_cache(maxsize=None)
 def powers_of(by_layer):
     """The extremes among the powers of weights, and among the sums over the layers for each port."""
+    by_layer = [array.array('q', powers) for powers in by_layer]
     by_port = [sum(port) for port in zip(*by_layer)]
     return Powers(min(map(min, by_layer)), max(map(max, by_layer)), min(by_port), max(by_port))
 
@@ -496,28 +514,26 @@ class Asked:
     def of(self, s):
         """Of the answers to all reports of a setting."""
         phases, weights = self.tests.book.functions
-        for case, answers in self.answers(phases, s):
-            for _, layers in answers:
-                self.reached.update(*layers)
-            self.orthogonality(s, *case, answers)
-        for case, answers in self.answers(weights, s):
-            self.cross_sums(s, *case, answers)
-            self.powers(s, *case, answers)
+        for mode, v, reports in self.tests.reports[phases]:
+            answers = self.answers(phases, s, v, reports)
+            self.reached.update(*answers)
+            self.orthogonality(s, mode, v, answers)
+        for mode, v, reports in self.tests.reports[weights]:
+            answers = self.answers(weights, s, v, reports)
+            self.cross_sums(s, mode, v, answers)
+            self.powers(s, mode, v, answers)
+            self.pairs += math.comb(v, 2) * len(reports)
         for cache in (orthogonal, layer_of, largest_part):
             cache.cache_clear()
 
-    def answers(self, function, s):
-        """By mode and rank: the reports, each with the bytes of its layers as they came."""
-        size = function.width * function.parts * s.P
-
-        def layers(v, at):
+    def answers(self, function, s, v, reports):
+        """The answers that came, without the record, each with the first report that has it: equal ones are asked once."""
+        size, answers = function.width * needed(function, s, v), {}
+        for report, at in reports:
+            at += RECORD.size + 1
             # What did not come counts as bytes that no test allows: equal phases of no report, weights far too large.
-            whole = bytes(self.tests.came[at:at + v * size]).ljust(v * size, b'\x7f')
-            return [whole[k * size:(k + 1) * size] for k in range(v)]
-
-        reports = self.tests.reports[function]
-        for (mode, v), group in itertools.groupby(reports, lambda pair: (pair[0].mode, pair[0].v)):
-            yield (mode, v), [(report, layers(v, at + RECORD.size + 1)) for report, at in group]
+            answers.setdefault(bytes(self.tests.came[at:at + size]).ljust(size, b'\x7f'), report)
+        return answers
 
     def begin(self, what, s, mode, v):
         self.tests.begin(f'{what.format(self.tests.book.name_of(s))} mode {mode} v={v}')
@@ -528,25 +544,23 @@ class Asked:
     def orthogonality(self, s, mode, v, answers):
         if v > 1:
             self.begin('phases, exactly orthogonal: layers of {}', s, mode, v)
-            for report, layers in answers:
-                if not all(itertools.starmap(orthogonal, itertools.combinations(layers, 2))):
+            for answer, report in answers.items():
+                if not all(itertools.starmap(orthogonal, itertools.combinations(layers_in(answer, v), 2))):
                     self.fail(report, 'two layers are not orthogonal')
 
     def cross_sums(self, s, mode, v, answers):
         if v > 1:
             self.begin('weights: cross-sums of {}', s, mode, v)
-            for report, layers in answers:
-                parts = list(itertools.starmap(largest_part, itertools.combinations(layers, 2)))
-                largest = max(parts)
+            for answer, report in answers.items():
+                largest = max(itertools.starmap(largest_part, itertools.combinations(layers_in(answer, v), 2)))
                 if largest > PART * s.P:
                     self.fail(report, f'a part is {largest:,}')
                 self.part.meet(largest, report)
-                self.pairs += len(parts)
 
     def powers(self, s, mode, v, answers):
         self.begin('weights: powers of {}', s, mode, v)
-        for report, layers in answers:
-            found = powers_of(tuple([layer_of(layer).powers for layer in layers]))
+        for answer, report in answers.items():
+            found = powers_of(tuple([layer_of(layer).powers for layer in layers_in(answer, v)]))
             difference = found.highest_port - found.lowest_port
             if not (-PART <= LOWEST <= found.lowest and found.highest <= HIGHEST <= PART):
                 self.fail(report, f'powers from {found.lowest:,} to {found.highest:,}')
@@ -580,10 +594,10 @@ def beam_masks(tests, function):
     book, bits_read = tests.book, 0
     for s, mode, v in book.groups():
         tests.begin(f'{function.name}: beam masks of {book.name_of(s)} mode {mode} v={v}')
-        length = needed(function, s, v)
-        all_but = [book.ones_but(s, [k]) for k in range(8 * book.mask_bytes(s))]
+        length, part = needed(function, s, v), book.part_of_range(s, mode, v)
+        all_but = [book.ones_but(s, k) for k in range(8 * book.mask_bytes(s))]
         for n, report in enumerate(book.reports_in_range(s, mode, v)):
-            if book.in_part(n):
+            if n in part:
                 bits = book.bits_of(report)
                 tests.add(function, report, 255, book.mask_of(s, bits), length, n % 256, 0)
                 for k in bits:
@@ -606,6 +620,7 @@ def rank_masks(tests, function):
 
 # ---- Both sides of every bound ---------------------------------------------------------------------------------------
 
+@functools.lru_cache(maxsize=None)
 def near(count):
     """Numbers on both sides of a bound, and numbers that some bits, up to 31, or a doubling cut down to legal ones."""
     last = count - 1
@@ -745,7 +760,7 @@ def with_faults(book, function, report, faults, variant):
         first = 64 if faults & {2, 4} else counts[name]
         numbers[name] = form(number, first, 2 ** 32 - 1, 2 ** 31 + legal, 256 + legal)
     if 10 in faults:
-        mask = form(10, bytes(len(mask)), book.ones_but(s, book.bits_of(report)[-1:]))
+        mask = form(10, bytes(len(mask)), book.ones_but(s, book.bits_of(report)[-1]))
     if 3 in faults:
         mask = form(3, mask[:-1], mask + b'\xff', b'', mask + mask)
     if 11 in faults:
@@ -776,8 +791,7 @@ def orders(tests, function):
 
 # ---- Random requests -------------------------------------------------------------------------------------------------
 
-# By the numbers of an entry.
-RANDOM_REQUESTS, FEWEST = {1: 240_000, 2: 120_000}, 1_000
+FEWEST = 1_000
 
 
 def draw_number(draw, count):
@@ -842,7 +856,7 @@ def draw_request(draw, book, function):
 
 
 def random_requests(tests, function):
-    book, draw, requests = tests.book, random.Random(SEED + function.code), RANDOM_REQUESTS[function.parts]
+    book, draw, requests = tests.book, random.Random(SEED + function.code), tests.book.drawn // function.parts
     named = {number: tests.begin(f'{function.name}: random requests to be '
                                  + (f'refused with {number}' if number else 'accepted')) for number in (0, *book.order)}
     drawn = collections.Counter()
@@ -867,6 +881,8 @@ def main(book, held, about, words):
     if not words or words[0].startswith('-'):
         print(f'{name}: it takes COMMAND.. or --help', file=sys.stderr)
         return 2
+    # Millions of tuples are kept, and none is in a cycle.
+    gc.disable()
     tests = Tests(book)
     for part in (*held, weights_of_phases, count_rule):
         part(tests)

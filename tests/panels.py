@@ -38,15 +38,16 @@ panels, and 4 a rank above 4; that i14 and i2 are three numbers each, those with
 
 What is sent and what is asked of the answers
 ---------------------------------------------
-harness.py says it. Longer and shorter buffers and masks are tried for one report of eight, another one of each eight in
-turn: every i11, i12 and i13 of every setting, mode and rank is among them, which is tested. Numbers that are no setting
-are all up to 9 x 17 x 9, and others.
+harness.py says it. Longer and shorter buffers and masks are tried for one report of 32, another one of each 32 in turn;
+where only 8 or 16 reports have the same i11, i12 and i13, for one of these. So each i11, i12 and i13 is among them.
+Numbers that are no setting are all up to 9 x 17 x 9, and others.
 Reports have only phases that are multiples of 6, which is tested. The weights of the other phases are in no answer.
 """
 
 import cmath
 import collections
 import functools
+import math
 import sys
 
 from harness import TURN, Codebook, Known, functions, main, near
@@ -98,13 +99,13 @@ TABLE_2 = {(2, 1): [(1, 0)],
 
 
 def k_rows(s, v):
-    """The rows of k by i13; one layer has no k."""
-    return [None] if v == 1 else table_3(s.N1, s.N2) if v == 2 else TABLE_2[s.N1, s.N2]
+    """The rows of k by i13. One layer has no use for k, and i13 is 0."""
+    return [(0, 0)] if v == 1 else table_3(s.N1, s.N2) if v == 2 else TABLE_2[s.N1, s.N2]
 
 
-# ---- Layers: W^{1,Ng,mode} and W^{2,Ng,mode}, by the coefficients of their blocks -------------------------------------
+# ---- Layers ----------------------------------------------------------------------------------------------------------
 
-# By the upper numbers of W.
+# The coefficients of the blocks of W^{1,Ng,mode} and W^{2,Ng,mode}, by the upper numbers; p[0] is p_1, n[0] n or n_0.
 COEFFICIENTS = {
     (1, 2, 1): lambda p, n: [1, phi(n[0]),
                              phi(p[0]), phi(n[0]) * phi(p[0])],
@@ -125,58 +126,54 @@ COEFFICIENTS = {
 
 
 @functools.lru_cache(maxsize=None)
-def coefficients(first, Ng, mode, p, n):
-    return COEFFICIENTS[first, Ng, mode](p, n)
+def coefficients(upper, p, n):
+    return COEFFICIENTS[upper](p, n)
 
 
-@functools.lru_cache(maxsize=None)
-def layer(s, first, mode, beam, p, n):
-    """The phases and the weights of W^{first,Ng,mode} of l, m, p and n."""
-    blocks = [block(s, 1, coefficient, beam) for coefficient in coefficients(first, s.Ng, mode, p, n)]
-    phases, weights = zip(*blocks)
-    return b''.join(phases), b''.join(weights)
+class Layers(dict):
+    """The layers W of some upper numbers and one beam: their phases and their weights, by p and n one after the other."""
 
+    def __init__(self, s, upper, beam):
+        self.s, self.upper, self.beam = s, upper, beam
+
+    def __missing__(self, p_and_n):
+        blocks = [block(self.s, 1, x, self.beam) for x in coefficients(self.upper, p_and_n[:3], p_and_n[3:])]
+        self[p_and_n] = tuple(map(b''.join, zip(*blocks)))
+        return self[p_and_n]
+
+
+layers_of = functools.lru_cache(maxsize=None)(Layers)
 
 # ---- Matrices (Tables 5.2.2.2.2-3 to -6) -----------------------------------------------------------------------------
 
-# By the number of layers: for each, the first upper number of its W, and whether it has l' and m'.
-LAYERS = {1: [(1, False)],
-          2: [(1, False), (2, True)],
-          3: [(1, False), (1, True), (2, False)],
-          4: [(1, False), (1, True), (2, False), (2, True)]}
+# By the number of layers: the first upper number of each W, and whether it has l' and m' for l and m.
+COLUMNS = {1: [(1, False)],
+           2: [(1, False), (2, True)],
+           3: [(1, False), (1, True), (2, False)],
+           4: [(1, False), (1, True), (2, False), (2, True)]}
 
 Report = collections.namedtuple('Report', 'Ng N1 N2 mode v i11 i12 i13 i141 i142 i143 i20 i21 i22')
 
+# What a report up to i13 fixes: a column as layers by p and n, and the bits of the beam mask that are read.
+Columns = collections.namedtuple('Columns', 'layers bits')
+
 
 @functools.lru_cache(maxsize=None)
-def beams(s, v, i11, i12, i13):
-    """The beams of (l, m) and of (l', m'), as the tables give them, not reduced."""
-    first = Beam(v_beam, i11, i12)
-    if v == 1:
-        return first,
+def columns(Ng, N1, N2, mode, v, i11, i12, i13):
+    s = SETTINGS[Ng, N1, N2]
     times_O1, times_O2 = k_rows(s, v)[i13]
-    return first, Beam(v_beam, i11 + times_O1 * s.O1, i12 + times_O2 * s.O2)
-
-
-@functools.lru_cache(maxsize=None)
-def bits_of_beams(s, some):
-    return tuple(sorted({bit for beam in some for bit in bits_of_beam(s, beam)}))
-
-
-def bits_of(report):
-    """The bits of the beam mask that W reads."""
-    s = SETTINGS[report[:3]]
-    return bits_of_beams(s, beams(s, report.v, report.i11, report.i12, report.i13))
+    beams = [(Beam(v_beam, i11 + times_O1 * s.O1, i12 + times_O2 * s.O2) if primed else Beam(v_beam, i11, i12))
+             for _, primed in COLUMNS[v]]
+    layers = [layers_of(s, (first, Ng, mode), beam) for (first, _), beam in zip(COLUMNS[v], beams)]
+    return Columns(layers, tuple(sorted({bit for beam in beams for bit in bits_of_beam(s, beam)})))
 
 
 PHASES, WEIGHTS = FUNCTIONS = functions('panel_', 2)
 
 
 def answer_of(function, report):
-    Ng, N1, N2, mode, v, i11, i12, i13, *i14_and_i2 = report
-    s, p, n = SETTINGS[Ng, N1, N2], tuple(i14_and_i2[:3]), tuple(i14_and_i2[3:])
-    of_beams, part = beams(s, v, i11, i12, i13), FUNCTIONS.index(function)
-    return b''.join([layer(s, first, mode, of_beams[primed], p, n)[part] for first, primed in LAYERS[v]])
+    part, p_and_n = FUNCTIONS.index(function), report[8:]
+    return b''.join([layers[p_and_n][part] for layers in columns(*report[:8]).layers])
 
 
 # ---- Ranges (headings of Tables 5.2.2.2.2-3 to -6) -------------------------------------------------------------------
@@ -216,13 +213,18 @@ def draw_numbers(draw, s):
                         (Ng, N1, draw.choice(near(N2 + 1)))))
 
 
+def among(s, mode, v):
+    """At most all that have the same i11, i12 and i13, so that these are all tried."""
+    return min(32, math.prod(values(s, mode, v)[3:]))
+
+
 MULTI = Codebook(
     functions=FUNCTIONS, Report=Report, settings=SETTINGS, most_layers=4, modes_of=modes_of, ranks_of=ranks_of,
     refusals={'i11': 6, 'i12': 7, 'i13': 8, 'i141': 12, 'i142': 12, 'i143': 12, 'i20': 9, 'i21': 9, 'i22': 9},
-    values=values, mask_bits=mask_bits, bits_of=bits_of, answer_of=answer_of, below=(10, 18, 10),
+    values=values, mask_bits=mask_bits, bits_of=lambda report: columns(*report[:8]).bits, answer_of=answer_of, below=(10, 18, 10),
     extremes=[0, 2, 4, 258, 65537, 2 ** 31, 2 ** 31 + 1, 2 ** 32 - 1],
-    near_misses=near_misses, draw_numbers=draw_numbers,
-    listed=lambda s, mode, v: REPORTS_IN_RANGE[s[:3]][mode - 1][v - 1], among=8,
+    near_misses=near_misses, draw_numbers=draw_numbers, drawn=120_000,
+    listed=lambda s, mode, v: REPORTS_IN_RANGE[s[:3]][mode - 1][v - 1], among=among,
     known=Known(reports=570_752, phases=42_340_864, pairs=1_548_352, reached={*range(0, TURN, 6)}, part=194_816,
                 lowest=-11_006, highest=6_213, apart=68_876, apart_at=((2, 4, 1), 4)))
 

@@ -418,7 +418,7 @@ SINGLE = Codebook(
     bits_of=lambda report: precoder(report).bits, answer_of=answer_of, below=(34, 34),
     extremes=[0, 1, 2, 4, 255, 256, 258, 65535, 65536, 65537, 2 ** 30, 2 ** 31 - 1, 2 ** 31, 2 ** 31 + 1, 2 ** 32 - 2,
               2 ** 32 - 1],
-    near_misses=near_misses, draw_numbers=draw_numbers, listed=listed, among=1,
+    near_misses=near_misses, draw_numbers=draw_numbers, drawn=240_000, listed=listed, among=lambda s, mode, v: 1,
     known=Known(reports=78_892, phases=6_387_360, pairs=471_268,
                 reached={e for e in range(TURN) if e % 3 == 0 or e % 4 == 0}, part=207_900, lowest=-17_126,
                 highest=15_121, apart=142_504, apart_at=((4, 3), 8)))

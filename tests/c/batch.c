@@ -64,13 +64,17 @@ static uint32_t number(int bytes) {
     return x;
 }
 
-static void put(uint8_t b) {
-    if (output_end == CHUNK) flush();
-    output[output_end++] = b;
+// Of at most CHUNK bytes.
+static void put(const uint8_t *bytes, size_t len) {
+    if (len > CHUNK - output_end) flush();
+    for (size_t i = 0; i < len; i++) output[output_end + i] = bytes[i];
+    output_end += len;
 }
 
 static void put_number(uint32_t x) {
-    for (int k = 0; k < 4; k++) put((uint8_t)(x >> 8 * k));
+    uint8_t bytes[4];
+    for (int k = 0; k < 4; k++) bytes[k] = (uint8_t)(x >> 8 * k);
+    put(bytes, 4);
 }
 
 // Bytes that are lent, between two guards.
@@ -107,7 +111,7 @@ static int guards_stand(const loan *l) {
 
 // The stack below a call is painted before it, and looked at after it. These two have their frame where the call
 // has its own, so that what stands nearest to the caller, at most 128 bytes, may go unseen; it is added.
-enum { WORD = sizeof(uint64_t), STACK = 8192 / WORD, UNSEEN = 128 };
+enum { WORD = sizeof(uint64_t), STACK = 3072 / WORD, UNSEEN = 128 };
 static const uint64_t PAINT = 0xa5a5a5a5a5a5a5a5;
 
 static __attribute__((noinline)) void paint(void) {
@@ -144,8 +148,8 @@ int main(void) {
         // Numbers of 16 bits start at even addresses only.
         size_t width = of_weights ? sizeof(int16_t) : sizeof(uint8_t), buffer_len = number(2);
         lend(&buffer, function, width * count, width * buffer_len);
-        uint32_t fill = number(1);
-        for (size_t i = 0; i < buffer.len; i++) buffer.at[i] = (uint8_t)(fill + 37 * i);
+        uint8_t fill = (uint8_t)number(1);
+        for (size_t i = 0; i < buffer.len; i++, fill = (uint8_t)(fill + 37)) buffer.at[i] = fill;
         int16_t *weights = (int16_t *)(void *)buffer.at;
 
         aspenflick_record record = {0, 0, 0, 0};
@@ -165,8 +169,9 @@ int main(void) {
         put_number(record.ports);
         put_number(record.layers);
         put_number(record.scale);
-        put((uint8_t)intact);
-        for (size_t i = 0; i < buffer.len; i++) put(buffer.at[i]);
+        uint8_t all_intact = (uint8_t)intact;
+        put(&all_intact, 1);
+        put(buffer.at, buffer.len);
     }
     for (int function = 0; function < FUNCTIONS; function++) put_number(deepest[function]);
     flush();
