@@ -50,7 +50,7 @@ import functools
 import math
 import sys
 
-from harness import TURN, Codebook, Known, functions, main, near
+from harness import TURN, Codebook, Known, functions, layers_in, main, near
 from precoder import Beam, bits_of_beam, block, mask_bits, phi, table_3, v_beam
 
 # ---- Settings --------------------------------------------------------------------------------------------------------
@@ -229,10 +229,62 @@ MULTI = Codebook(
                 lowest=-11_006, highest=6_213, apart=68_876, apart_at=((2, 4, 1), 4)))
 
 
-# ---- Worked cases, held against the model ----------------------------------------------------------------------------
+# ---- Reports worked out by hand from 000, held against the model -----------------------------------------------------
 
 def worked_cases(tests):
-    pass
+    def number(setting, mode, v, mask=None, **indices):
+        s = SETTINGS.get(setting)
+        report = Report(*setting, mode, v, *[0] * 9)._replace(**indices)
+        return MULTI.refusal(PHASES, report, 255, (MULTI.ones(s) if s else b'\xff') if mask is None else mask, 1000)
+
+    def layers(setting, mode, v, **indices):
+        phases = answer_of(PHASES, Report(*setting, mode, v, *[0] * 9)._replace(**indices))
+        return [list(layer) for layer in layers_in(phases, v)]
+
+    def case(name, *facts):
+        tests.begin(f'worked case: {name}, by the model')
+        tests.check(all(facts), f'its facts hold: {facts}')
+
+    case('two panels, mode 1',
+         layers((2, 2, 1), 1, 1, i11=1, i141=1, i20=1) == [[0, 24, 48, 72, 48, 72, 96, 120]])
+    case('two panels, mode 2: a_1 b_1 is half a turn, a_3 b_0 three quarters',
+         layers((2, 2, 1), 2, 1, i11=1, i141=1, i142=3, i20=3, i21=1) == [[0, 24, 144, 168, 96, 120, 144, 168]])
+    case('four panels, each with both polarisations',
+         layers((4, 2, 1), 1, 1, i141=1, i142=2, i143=3, i20=1)
+         == [[0, 0, 48, 48, 48, 48, 96, 96, 96, 96, 144, 144, 144, 144, 0, 0]])
+    beams_7_and_3 = {'i11': 7, 'i13': 1, 'i141': 3, 'i20': 1}
+    case('two layers, of beams 7 and 11, which is 3',
+         layers((2, 2, 1), 1, 2, **beams_7_and_3)
+         == [[0, 168, 48, 24, 144, 120, 0, 168], [0, 72, 144, 24, 144, 24, 96, 168]],
+         number((2, 2, 1), 1, 2, b'\x88', **beams_7_and_3) == 0, number((2, 2, 1), 1, 2, b'\xf7', **beams_7_and_3) == 10,
+         number((2, 2, 1), 1, 2, b'\x7f', **beams_7_and_3) == 10)
+    case('four layers, k = (O1, O2)',
+         layers((2, 2, 2), 1, 4, i13=2)
+         == [[0] * 16, [0, 96, 96, 0] * 4, [0, 0, 0, 0, 96, 96, 96, 96] * 2, [0, 96, 96, 0, 96, 0, 0, 96] * 2])
+    case('three layers, k = (0, O2) in row 1',
+         layers((2, 2, 2), 1, 3, i13=1)[1] == [0, 96] * 8, layers((2, 4, 2), 1, 3, i13=1)[1] == [0, 96] * 16)
+    case('settings, modes and ranks', number((1, 2, 1), 1, 1) == 1, number((3, 2, 1), 1, 1) == 1,
+         number((4, 8, 1), 1, 1) == 1, number((2, 1, 1), 1, 1) == 1, number((4, 2, 1), 1, 1) == 0,
+         number((4, 2, 1), 2, 1) == 2, number((2, 2, 1), 3, 1) == 2, number((2, 2, 1), 1, 4) == 0,
+         number((2, 2, 1), 1, 5) == 4)
+    case('bytes of a mask', [MULTI.mask_bytes(s) for s in SETTINGS.values()] == [1, 2, 1, 8, 4, 2, 16, 8])
+    case('i11 and i12 have all their values in both modes',
+         *[number((2, 2, 2), mode, 1, i11=7, i12=7) == 0 for mode in (1, 2)],
+         *[number((2, 2, 2), mode, 1, i11=8) == 6 for mode in (1, 2)],
+         *[number((2, 2, 2), mode, 1, i12=8) == 7 for mode in (1, 2)], number((2, 4, 1), 1, 1, i12=1) == 7)
+    case('i13 with 1 layer, and the last rows of k', number((2, 8, 1), 1, 1, i13=1) == 8,
+         number((2, 8, 1), 1, 2, i13=3) == 0, number((2, 8, 1), 1, 2, i13=4) == 8, number((2, 8, 1), 1, 3, i13=3) == 0,
+         number((2, 8, 1), 1, 3, i13=4) == 8, number((4, 4, 1), 1, 4, i13=2) == 0, number((4, 4, 1), 1, 4, i13=3) == 8,
+         number((2, 2, 1), 1, 3, i13=0) == 0, number((2, 2, 1), 1, 3, i13=1) == 8)
+    case('numbers of i14, used and not', number((2, 2, 1), 1, 1, i141=3) == 0, number((2, 2, 1), 1, 1, i141=4) == 12,
+         number((2, 2, 1), 1, 1, i142=1) == 12, number((2, 2, 1), 2, 1, i142=3) == 0,
+         number((2, 2, 1), 2, 1, i142=4) == 12, number((2, 2, 1), 2, 1, i143=1) == 12,
+         number((4, 2, 1), 1, 1, i143=3) == 0, number((4, 2, 1), 1, 1, i143=4) == 12)
+    case('numbers of i2, used and not', number((2, 2, 1), 1, 1, i20=3) == 0, number((2, 2, 1), 1, 1, i20=4) == 9,
+         number((2, 2, 1), 1, 2, i20=2) == 9, number((2, 2, 1), 1, 1, i21=1) == 9, number((2, 2, 1), 2, 1, i21=1) == 0,
+         number((2, 2, 1), 2, 1, i22=2) == 9, number((2, 2, 1), 2, 2, i20=2) == 9)
+    case('12 stands between 8 and 9', number((2, 2, 1), 1, 1, i13=1, i142=1) == 8,
+         number((2, 2, 1), 1, 1, i142=1, i21=1) == 12)
 
 
 if __name__ == '__main__':
