@@ -14,14 +14,14 @@ What is sent, for each of the two functions
              cut down to legal ones; numbers that are no setting
   order      all pairs of faults for every setting, mode and rank, and all sets of two or more faults for every setting
   random     requests drawn from legal numbers, bounds and extremes, answered by the whole model
-A codebook of very many reports has a part of them in place of every report for longer and shorter buffers and for masks
-(`among`); its own docstring says so.
+Of a codebook with very many reports only a part is sent into longer and shorter buffers and with such masks; its
+docstring says which.
 On a refusal the record's other numbers are 0 and the buffer is as lent. Bytes around the buffer and the mask, and the
 mask, never change. No call of phases uses more than 1,024 bytes of stack, no call of weights more than 2,048.
 
 What is asked of the answers, for every report
 ----------------------------------------------
-These are computed from the numbers that came from the library, not from the model:
+These are computed from the numbers that came from the library, not from the model; of equal answers, from one:
   phases     every two layers are exactly orthogonal, by the count rule of 01, which is itself held against complex sums
   weights    the cross-sum of every two layers, the power of every weight, the power of every port over the layers, and
              how far the powers of two ports differ are within the limits that are proved; the worst of each is the
@@ -49,7 +49,6 @@ import table
 TURN, RADIUS, SEED = 192, 16384, 38_214
 
 # ---- Entries ---------------------------------------------------------------------------------------------------------
-
 
 def nearest(part):
     """The whole number nearest to 16384 times a part of an entry of size 1."""
@@ -648,9 +647,10 @@ def not_settings(tests, function):
     tests.begin(f'{function.name}: numbers up to {most} that are not settings')
     small = [numbers for numbers in itertools.product(*map(range, book.below)) if numbers not in book.settings]
     tests.check(len(small) == math.prod(book.below) - len(book.settings), f'{len(small)} of them')
-    for *_, N1, N2 in small:
+    for numbers in small:
+        N1, N2 = numbers[-2:]
         # The second length is what the mask of such a setting would need, with O1 = 4 and O2 = 4 or 1.
-        refused((*_, N1, N2), {1, 2 * N1 * N2 if N2 > 1 else (N1 + 1) // 2}, (N1 + 34 * N2) % 256)
+        refused(numbers, {1, 2 * N1 * N2 if N2 > 1 else (N1 + 1) // 2}, (N1 + 34 * N2) % 256)
 
     tests.begin(f'{function.name}: numbers that become settings, or their ports, when cut down')
     for s in book.settings.values():

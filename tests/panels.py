@@ -15,26 +15,27 @@ turns. No phase is computed in whole numbers. The factor 1/sqrt(v) of the whole 
 Weights: the same complex entries without their factor, times 16384, each part taken to the nearest whole number, not by
 way of the phase.
 
-The rules come from 000, a later excerpt of TS 38.214, which has all of 5.2.2.2.2; 002 and 003 have it too, with slips,
-and 000 decides. Which is from where:
+The rules come from 000, an excerpt of TS 38.214 that has all of 5.2.2.2.2. 002 and 003 have it too, with slips; 000
+decides. 01 is the scope, and 02 adds this codebook to it. Which is from where:
 
 From 000:
-  - the settings (Ng,N1,N2) with their O1, O2 and P (Table 5.2.2.2.2-1), and P = 2 Ng N1 N2. 002 and 003 have 16 and 32
-    some rows too low, against the text above the table;
-  - the modes: 1 and 2 for two panels, 1 for four; the ranks, 1 to 4;
-  - k1 and k2 of 3 and 4 layers (Table -2). 003 has 0, 0 and O2, 0 in row 1 of (2,2) and (4,2), where 000 and 002 have
+  - the settings (Ng,N1,N2) with P, O1 and O2 (Table 5.2.2.2.2-1). 002 and 003 have 16 and 32 three and four rows too low,
+    against P = 2 Ng N1 N2 in the text above;
+  - the modes, 1 and 2 for two panels and 1 for four, and the ranks, 1 to 4;
+  - which numbers of i14 and i2 are used with how many panels in which mode, and how many values each index has (headings
+    of Tables -3 to -6);
+  - k1 and k2 of 3 and 4 layers (Table -2). In row 1 of (2,2) and (4,2) 003 has 0, 0 and O2, 0, where 000 and 002 have
     0, O2;
-  - phi_n, a_p, b_n, u_m and v_{l,m}; phi_n, u_m and v_{l,m} are those of 5.2.2.2.1, and precoder.py has them;
+  - phi_n, a_p, b_n, u_m and v_{l,m}. But for a_p and b_n they are those of 5.2.2.2.1, which precoder.py has;
   - W^{1,2,1}, W^{2,2,1}, W^{1,4,1}, W^{2,4,1}, W^{1,2,2} and W^{2,2,2}, whose rows are the ports; W of 1 to 4 layers,
-    and how many values an index has (Tables -3 to -6). 002 prints i12 + k1 for l', and for 2 layers no i12 + k2; 003
-    prints neither l' nor m';
-  - which numbers of i14 and i2 a mode uses, and how many panels have which;
-  - the mask bits: how many, and which of them bars which precoder; bit v-1 of the rank mask, r_{v-1}, of four.
-From Table 5.2.2.2.1-3, in 003 and in 01: k1 and k2 of 2 layers.
-From 01, where 000 is silent: all that precoder.py has from there of records, masks, phases, weights and buffers; that
-an index without use has the value 0 alone, here i13 with 1 layer and i12 where N2 = 1.
-From 02, where 000 is silent: the new refusal 12, of an i14 number, between 8 and 9; that 1 covers Ng, 2 mode 2 with four
-panels, and 4 a rank above 4; that i14 and i2 are three numbers each, those without use 0.
+    and l, l', m and m' (Tables -3 to -6). For l' 002 prints i12 + k1, and for 2 layers neither m nor m'; 003 prints
+    neither l' nor m';
+  - the mask bits: how many, and which of them bars which precoder; bit v-1 of the rank mask, r_{v-1}, which has four.
+From 003: k1 and k2 of 2 layers (Table 5.2.2.2.1-3), to which 000 refers.
+From 01, where 000 is silent: the refusals but for what stands below; that an index without use, here i13 with 1 layer,
+has the value 0 alone; records, the bytes of masks, 1/192 turns, weights and buffers, as precoder.py says.
+From 02, where 000 is silent: that i14 and i2 are three numbers each, and those without use are 0; refusal 12, of a number
+of i14, between 8 and 9; that 1 covers Ng, 2 mode 2 with four panels, and 4 a rank above 4.
 
 What is sent and what is asked of the answers
 ---------------------------------------------
@@ -131,7 +132,7 @@ def coefficients(upper, p, n):
 
 
 class Layers(dict):
-    """The layers W of some upper numbers and one beam: their phases and their weights, by p and n one after the other."""
+    """The layers W of some upper numbers and one beam, their phases and their weights: by p, n as one tuple."""
 
     def __init__(self, s, upper, beam):
         self.s, self.upper, self.beam = s, upper, beam
@@ -154,7 +155,7 @@ COLUMNS = {1: [(1, False)],
 
 Report = collections.namedtuple('Report', 'Ng N1 N2 mode v i11 i12 i13 i141 i142 i143 i20 i21 i22')
 
-# What a report up to i13 fixes: a column as layers by p and n, and the bits of the beam mask that are read.
+# What a report fixes up to i13: the layers, each by p and n, and the bits of the beam mask that are read.
 Columns = collections.namedtuple('Columns', 'layers bits')
 
 
@@ -162,10 +163,10 @@ Columns = collections.namedtuple('Columns', 'layers bits')
 def columns(Ng, N1, N2, mode, v, i11, i12, i13):
     s = SETTINGS[Ng, N1, N2]
     times_O1, times_O2 = k_rows(s, v)[i13]
-    beams = [(Beam(v_beam, i11 + times_O1 * s.O1, i12 + times_O2 * s.O2) if primed else Beam(v_beam, i11, i12))
-             for _, primed in COLUMNS[v]]
-    layers = [layers_of(s, (first, Ng, mode), beam) for (first, _), beam in zip(COLUMNS[v], beams)]
-    return Columns(layers, tuple(sorted({bit for beam in beams for bit in bits_of_beam(s, beam)})))
+    beams = Beam(v_beam, i11, i12), Beam(v_beam, i11 + times_O1 * s.O1, i12 + times_O2 * s.O2)
+    layers = [layers_of(s, (first, Ng, mode), beams[primed]) for first, primed in COLUMNS[v]]
+    read = {bit for _, primed in COLUMNS[v] for bit in bits_of_beam(s, beams[primed])}
+    return Columns(layers, tuple(sorted(read)))
 
 
 PHASES, WEIGHTS = FUNCTIONS = functions('panel_', 2)
@@ -214,17 +215,16 @@ def draw_numbers(draw, s):
 
 
 def among(s, mode, v):
-    """At most all that have the same i11, i12 and i13, so that these are all tried."""
+    """32, but not more than there are reports with the same i11, i12 and i13, so that each of these is tried."""
     return min(32, math.prod(values(s, mode, v)[3:]))
 
 
 MULTI = Codebook(
     functions=FUNCTIONS, Report=Report, settings=SETTINGS, most_layers=4, modes_of=modes_of, ranks_of=ranks_of,
     refusals={'i11': 6, 'i12': 7, 'i13': 8, 'i141': 12, 'i142': 12, 'i143': 12, 'i20': 9, 'i21': 9, 'i22': 9},
-    values=values, mask_bits=mask_bits, bits_of=lambda report: columns(*report[:8]).bits, answer_of=answer_of, below=(10, 18, 10),
-    extremes=[0, 2, 4, 258, 65537, 2 ** 31, 2 ** 31 + 1, 2 ** 32 - 1],
-    near_misses=near_misses, draw_numbers=draw_numbers, drawn=120_000,
-    listed=lambda s, mode, v: REPORTS_IN_RANGE[s[:3]][mode - 1][v - 1], among=among,
+    values=values, mask_bits=mask_bits, bits_of=lambda report: columns(*report[:8]).bits, answer_of=answer_of,
+    below=(10, 18, 10), extremes=[0, 2, 4, 258, 65537, 2 ** 31, 2 ** 31 + 1, 2 ** 32 - 1], near_misses=near_misses,
+    drawn=120_000, draw_numbers=draw_numbers, listed=lambda s, mode, v: REPORTS_IN_RANGE[s[:3]][mode - 1][v - 1], among=among,
     known=Known(reports=570_752, phases=42_340_864, pairs=1_548_352, reached={*range(0, TURN, 6)}, part=194_816,
                 lowest=-11_006, highest=6_213, apart=68_876, apart_at=((2, 4, 1), 4)))
 
@@ -235,7 +235,8 @@ def worked_cases(tests):
     def number(setting, mode, v, mask=None, **indices):
         s = SETTINGS.get(setting)
         report = Report(*setting, mode, v, *[0] * 9)._replace(**indices)
-        return MULTI.refusal(PHASES, report, 255, (MULTI.ones(s) if s else b'\xff') if mask is None else mask, 1000)
+        mask = (MULTI.ones(s) if s else b'\xff') if mask is None else mask
+        return MULTI.refusal(PHASES, report, 255, mask, 1000)
 
     def layers(setting, mode, v, **indices):
         phases = answer_of(PHASES, Report(*setting, mode, v, *[0] * 9)._replace(**indices))
@@ -267,6 +268,7 @@ def worked_cases(tests):
          number((4, 8, 1), 1, 1) == 1, number((2, 1, 1), 1, 1) == 1, number((4, 2, 1), 1, 1) == 0,
          number((4, 2, 1), 2, 1) == 2, number((2, 2, 1), 3, 1) == 2, number((2, 2, 1), 1, 4) == 0,
          number((2, 2, 1), 1, 5) == 4)
+    case('ports', all(s.P == 2 * s.Ng * s.N1 * s.N2 for s in SETTINGS.values()))
     case('bytes of a mask', [MULTI.mask_bytes(s) for s in SETTINGS.values()] == [1, 2, 1, 8, 4, 2, 16, 8])
     case('i11 and i12 have all their values in both modes',
          *[number((2, 2, 2), mode, 1, i11=7, i12=7) == 0 for mode in (1, 2)],
