@@ -31,7 +31,7 @@ From 000:
     and l, l', m and m' (Tables -3 to -6). For l' 002 prints i12 + k1, and for 2 layers neither m nor m'; 003 prints
     neither l' nor m';
   - the mask bits: how many, and which of them bars which precoder; bit v-1 of the rank mask, r_{v-1}, which has four.
-From 003: k1 and k2 of 2 layers (Table 5.2.2.2.1-3), to which 000 refers.
+From 003: k1 and k2 of 2 layers (Table 5.2.2.2.1-3), to which 000 refers; 01 has the same rows.
 From 01, where 000 is silent: the refusals but for what stands below; that an index without use, here i13 with 1 layer,
 has the value 0 alone; records, the bytes of masks, 1/192 turns, weights and buffers, as precoder.py says.
 From 02, where 000 is silent: that i14 and i2 are three numbers each, and those without use are 0; refusal 12, of a number
@@ -40,7 +40,8 @@ of i14, between 8 and 9; that 1 covers Ng, 2 mode 2 with four panels, and 4 a ra
 What is sent and what is asked of the answers
 ---------------------------------------------
 harness.py says it. Longer and shorter buffers and masks are tried for one report of 32, another one of each 32 in turn;
-where only 8 or 16 reports have the same i11, i12 and i13, for one of these. So each i11, i12 and i13 is among them.
+where only 8 or 16 reports have the same i11, i12 and i13, for one of these. So every i11, i12 and i13 is among them,
+which is tested.
 Numbers that are no setting are all up to 9 x 17 x 9, and others.
 Reports have only phases that are multiples of 6, which is tested. The weights of the other phases are in no answer.
 """
@@ -214,9 +215,9 @@ def draw_numbers(draw, s):
                         (Ng, N1, draw.choice(near(N2 + 1)))))
 
 
-def among(s, mode, v):
-    """32, but not more than there are reports with the same i11, i12 and i13, so that each of these is tried."""
-    return min(32, math.prod(values(s, mode, v)[3:]))
+def of_one_beam(s, mode, v):
+    """How many reports have the same i11, i12 and i13; they stand one after the other."""
+    return math.prod(values(s, mode, v)[3:])
 
 
 MULTI = Codebook(
@@ -224,9 +225,18 @@ MULTI = Codebook(
     refusals={'i11': 6, 'i12': 7, 'i13': 8, 'i141': 12, 'i142': 12, 'i143': 12, 'i20': 9, 'i21': 9, 'i22': 9},
     values=values, mask_bits=mask_bits, bits_of=lambda report: columns(*report[:8]).bits, answer_of=answer_of,
     below=(10, 18, 10), extremes=[0, 2, 4, 258, 65537, 2 ** 31, 2 ** 31 + 1, 2 ** 32 - 1], near_misses=near_misses,
-    drawn=120_000, draw_numbers=draw_numbers, listed=lambda s, mode, v: REPORTS_IN_RANGE[s[:3]][mode - 1][v - 1], among=among,
+    drawn=120_000, draw_numbers=draw_numbers, listed=lambda s, mode, v: REPORTS_IN_RANGE[s[:3]][mode - 1][v - 1],
+    among=lambda s, mode, v: min(32, of_one_beam(s, mode, v)),
     known=Known(reports=570_752, phases=42_340_864, pairs=1_548_352, reached={*range(0, TURN, 6)}, part=194_816,
                 lowest=-11_006, highest=6_213, apart=68_876, apart_at=((2, 4, 1), 4)))
+
+
+def part_of_range(tests):
+    tests.begin('the part that is tried in more ways has every i11, i12 and i13')
+    for s, mode, v in MULTI.groups():
+        alike = of_one_beam(s, mode, v)
+        tried = {n // alike for n in MULTI.part_of_range(s, mode, v)}
+        tests.check(len(tried) == MULTI.listed(s, mode, v) / alike, f'not at {MULTI.name_of(s)} mode {mode} v={v}')
 
 
 # ---- Reports worked out by hand from 000, held against the model -----------------------------------------------------
@@ -290,4 +300,4 @@ def worked_cases(tests):
 
 
 if __name__ == '__main__':
-    sys.exit(main(MULTI, [worked_cases], __doc__, sys.argv[1:]))
+    sys.exit(main(MULTI, [worked_cases, part_of_range], __doc__, sys.argv[1:]))
