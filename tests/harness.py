@@ -256,8 +256,8 @@ class Tests:
     def clear(self):
         self.requests, self.answers, self.came = bytearray(), bytearray(), b''
         self.test_of, self.request_at, self.answer_at = array.array('L'), array.array('L'), array.array('L')
-        # By mode and rank: each function's reports in buffers just long enough, and the places of their answers.
-        self.reports = {function: [] for function in self.book.functions}
+        # By mode and rank: the reports in buffers just long enough, and the places of their answers.
+        self.reports = []
 
     def begin(self, name):
         """Starts a test: what is added or checked from here on belongs to it."""
@@ -409,7 +409,7 @@ def reports_of(tests, function, s):
             answers.append((report, len(tests.answers)))
             mask = book.mask_of(s, book.bits_of(report))
             tests.add(function, report, 1 << (v - 1), mask, length, (fill + 1 + n % 255) % 256, 0)
-        tests.reports[function].append((mode, v, answers))
+        tests.reports.append((mode, v, answers))
         tests.check(n + 1 == listed, f'{n + 1} reports in range, {listed} are listed')
         all_reports, all_numbers = all_reports + n + 1, all_numbers + (n + 1) * length
     return all_reports, all_numbers
@@ -418,11 +418,10 @@ def reports_of(tests, function, s):
 def every_report(tests, command):
     """Every report, setting by setting, and what is asked of the answers."""
     book, asked, totals = tests.book, Asked(tests), {function: (0, 0) for function in tests.book.functions}
-    for s in book.settings.values():
-        for function in book.functions:
-            totals[function] = tuple(map(operator.add, totals[function], reports_of(tests, function, s)))
+    for function, s in itertools.product(book.functions, book.settings.values()):
+        totals[function] = tuple(map(operator.add, totals[function], reports_of(tests, function, s)))
         tests.run(command)
-        asked.of(s)
+        asked.of(function, s)
         tests.clear()
     for function, (reports, numbers) in totals.items():
         tests.begin(f'{function.name}: totals of reports and numbers')
@@ -510,18 +509,17 @@ class Asked:
         self.tests, self.reached, self.pairs = tests, set(), 0
         self.part, self.low, self.high, self.apart = Worst(), Worst(min), Worst(), Worst()
 
-    def of(self, s):
+    def of(self, function, s):
         """Of the answers to all reports of a setting."""
-        phases, weights = self.tests.book.functions
-        for mode, v, reports in self.tests.reports[phases]:
-            answers = self.answers(phases, s, v, reports)
-            self.reached.update(*answers)
-            self.orthogonality(s, mode, v, answers)
-        for mode, v, reports in self.tests.reports[weights]:
-            answers = self.answers(weights, s, v, reports)
-            self.cross_sums(s, mode, v, answers)
-            self.powers(s, mode, v, answers)
-            self.pairs += math.comb(v, 2) * len(reports)
+        for mode, v, reports in self.tests.reports:
+            answers = self.answers(function, s, v, reports)
+            if function is self.tests.book.phases:
+                self.reached.update(*answers)
+                self.orthogonality(s, mode, v, answers)
+            else:
+                self.cross_sums(s, mode, v, answers)
+                self.powers(s, mode, v, answers)
+                self.pairs += math.comb(v, 2) * len(reports)
         for cache in (orthogonal, layer_of, largest_part):
             cache.cache_clear()
 

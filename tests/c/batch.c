@@ -109,8 +109,9 @@ static int guards_stand(const loan *l) {
     return stand;
 }
 
-// The stack below a call is painted before it, and looked at after it. These two have their frame where the call
-// has its own, so that what stands nearest to the caller, at most 128 bytes, may go unseen; it is added.
+// The stack below a call is painted before it, further down than a call may use, and looked at after it. Both functions
+// have their frame where the call has its own, so that what stands nearest to the caller, at most 128 bytes, may go
+// unseen; it is added.
 enum { WORD = sizeof(uint64_t), STACK = 3072 / WORD, UNSEEN = 128 };
 static const uint64_t PAINT = 0xa5a5a5a5a5a5a5a5;
 
@@ -169,8 +170,7 @@ int main(void) {
         put_number(record.ports);
         put_number(record.layers);
         put_number(record.scale);
-        uint8_t all_intact = (uint8_t)intact;
-        put(&all_intact, 1);
+        put(&(uint8_t){(uint8_t)intact}, 1);
         put(buffer.at, buffer.len);
     }
     for (int function = 0; function < FUNCTIONS; function++) put_number(deepest[function]);
