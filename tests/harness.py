@@ -1,7 +1,7 @@
-"""What the tests of both codebooks share; tests/precoder.py (single-panel) and tests/panels.py (multi-panel) start them.
+"""What the tests of both codebooks share: precoder.py has the single-panel one, panels.py the multi-panel one.
 
-Each brings a model of its codebook (`Codebook`), which gives the answer to any request. From here come the requests and
-the answers, as batch.c reads and writes them, what is sent, and what is asked of the answers that come.
+Each has a model of its codebook (`Codebook`), which gives the answer to any request. Here stand the requests and the
+answers, as batch.c reads and writes them, what is sent, and what is asked of the answers that come. Needs Python 3.9.
 
 What is sent, for each of the two functions
 -------------------------------------------
@@ -118,7 +118,7 @@ class Codebook:
     draw_numbers  of a generator and a setting: numbers that mostly are no setting
     listed        of a setting, mode and rank: how many reports are in range
     known         what is known of all reports
-    among         of a setting, mode and rank: longer and shorter buffers, and masks, are tried for one of so many reports
+    among         of a setting, mode and rank: one of so many reports is sent into longer and shorter buffers and with masks
     """
 
     def __init__(self, **fields):
