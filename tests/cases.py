@@ -51,7 +51,7 @@ import time
 import tty
 from pathlib import Path
 
-from precoder import MODES, PHASES, SETTINGS, Report, ones, precoder, ranks_of, refusal, reports_in_range, values
+from precoder import MODES, PHASES, SETTINGS, SINGLE, Report, precoder, ranks_of, values
 
 STORE = Path(__file__).resolve().parent / 'cases'
 FEWEST, SEED = 300, 38_214
@@ -76,7 +76,7 @@ def answer_of(data):
     if report is None:
         return 'unreadable\n'
     s = SETTINGS.get(report[:2])
-    number = refusal(PHASES, report, 255, ones(s) if s else b'', ROOM)
+    number = SINGLE.refusal(PHASES, report, 255, SINGLE.ones(s) if s else b'', ROOM)
     if number:
         return f'refused {number}\n'
     phases = precoder(report).phases
@@ -358,7 +358,7 @@ def settings():
     draw = random.Random(SEED)
     for s in SETTINGS.values():
         for mode, v in itertools.product(MODES, ranks_of(s)):
-            name, every = f'setting-{s.N1}-{s.N2}-mode-{mode}-layers-{v}', list(reports_in_range(s, mode, v))
+            name, every = f'setting-{s.N1}-{s.N2}-mode-{mode}-layers-{v}', list(SINGLE.reports_in_range(s, mode, v))
             yield name + '-last', line_of(every[-1])
             within = every[1:-1] or every[:1]
             yield name + '-drawn', line_of(within[int(draw.random() * len(within))])

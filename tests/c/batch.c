@@ -1,14 +1,15 @@
-// Calls aspenflick_phases or aspenflick_weights once for each request on standard input and writes what came of it to
-// standard output.
+// Calls aspenflick_phases, aspenflick_weights, aspenflick_panel_phases or aspenflick_panel_weights once for each request
+// on standard input and writes what came of it to standard output.
 //
-// A request, all numbers little-endian: the function (one byte: 0 for phases, 1 for weights), the report (eight numbers
-// of 32 bits: N1 N2 mode v i11 i12 i13 i2), the rank mask (one byte), the length of the beam mask (16 bits) and its
-// bytes, the length of the buffer in the numbers that the function answers, of 8 bits for phases and of 16 for weights
-// (16 bits), the first fill value (one byte). The lent buffer's byte i is the first fill value plus 37 i, modulo 256.
+// A request, all numbers little-endian: the function (one byte: 0 to 3, in the order above), the report (numbers of 32
+// bits, in the order of its struct: 8 of them, or 14 for panels), the rank mask (one byte), the length of the beam mask
+// (16 bits) and its bytes, the length of the buffer in the numbers that the function answers, of 8 bits for phases and of
+// 16 for weights (16 bits), the first fill value (one byte). The lent buffer's byte i is the first fill value plus 37 i,
+// modulo 256.
 // An answer: the record (four numbers of 32 bits: refusal, ports, layers, scale), one byte that is 1 if all guards
 // stand and the beam mask is as lent, else 0, and the buffer's bytes after the call.
-// After the last answer: how many bytes of stack the deepest call of phases has used, and the deepest of weights (32
-// bits each; 0 if there was none).
+// After the last answer: how many bytes of stack the deepest call of each function has used (32 bits each; 0 if there was
+// none).
 //
 // The exit status is 0 if the input ends after a whole request, 1 if it ends inside one or a request names no function,
 // 2 if reading or writing fails.
@@ -19,7 +20,7 @@ long read(int, void *, size_t);
 long write(int, const void *, size_t);
 _Noreturn void _exit(int);
 
-enum { PHASES, WEIGHTS, FUNCTIONS };
+enum { PHASES, WEIGHTS, PANEL_PHASES, PANEL_WEIGHTS, FUNCTIONS };
 enum { GUARD = 32, PLACES = 16, MOST = 65535, CHUNK = 1 << 20 };
 
 static uint8_t input[CHUNK], output[CHUNK];
@@ -63,13 +64,17 @@ static uint32_t number(int bytes) {
     return x;
 }
 
-static void put(uint8_t b) {
-    if (output_end == CHUNK) flush();
-    output[output_end++] = b;
+// Of at most CHUNK bytes.
+static void put(const uint8_t *bytes, size_t len) {
+    if (len > CHUNK - output_end) flush();
+    for (size_t i = 0; i < len; i++) output[output_end + i] = bytes[i];
+    output_end += len;
 }
 
 static void put_number(uint32_t x) {
-    for (int k = 0; k < 4; k++) put((uint8_t)(x >> 8 * k));
+    uint8_t bytes[4];
+    for (int k = 0; k < 4; k++) bytes[k] = (uint8_t)(x >> 8 * k);
+    put(bytes, 4);
 }
 
 // Bytes that are lent, between two guards.
@@ -81,7 +86,7 @@ typedef struct {
 
 // Guards hold nothing that the function answers, so that no number written there goes unseen: no phase is 192 or above,
 // and the upper byte of a weight is at most 64 or at least 192.
-static const uint8_t lowest_guard[FUNCTIONS] = {192, 96};
+static const uint8_t lowest_guard[FUNCTIONS] = {192, 96, 192, 96};
 
 static uint8_t guard(const loan *l, size_t i) { return (uint8_t)(l->lowest + 29 * i % 64); }
 
@@ -104,9 +109,10 @@ static int guards_stand(const loan *l) {
     return stand;
 }
 
-// The stack below a call is painted before it, and looked at after it. Both functions have their frame where the call
-// has its own, so that what stands nearest to the caller, at most 128 bytes, may go unseen; it is added.
-enum { WORD = sizeof(uint64_t), STACK = 8192 / WORD, UNSEEN = 128 };
+// The stack below a call is painted before it, further down than a call may use, and looked at after it. Both functions
+// have their frame where the call has its own, so that what stands nearest to the caller, at most 128 bytes, may go
+// unseen; it is added.
+enum { WORD = sizeof(uint64_t), STACK = 3072 / WORD, UNSEEN = 128 };
 static const uint64_t PAINT = 0xa5a5a5a5a5a5a5a5;
 
 static __attribute__((noinline)) void paint(void) {
@@ -126,28 +132,35 @@ static loan beams, buffer;
 static uint8_t beams_as_lent[MOST];
 
 int main(void) {
-    uint32_t deepest[FUNCTIONS] = {0, 0};
+    uint32_t deepest[FUNCTIONS] = {0};
     for (size_t count = 0;; count++) {
         int function = get();
         if (function < 0) break;
         if (function >= FUNCTIONS) give_up();
-        uint32_t n[8];
-        for (int k = 0; k < 8; k++) n[k] = number(4);
-        aspenflick_report report = {n[0], n[1], n[2], n[3], n[4], n[5], n[6], n[7]};
+        int of_panels = function >= PANEL_PHASES, of_weights = function == WEIGHTS || function == PANEL_WEIGHTS;
+        uint32_t n[14] = {0};
+        for (int k = 0; k < (of_panels ? 14 : 8); k++) n[k] = number(4);
+        aspenflick_report r = {n[0], n[1], n[2], n[3], n[4], n[5], n[6], n[7]};
+        aspenflick_panel_report p = {n[0], n[1], n[2], n[3], n[4], n[5], n[6], n[7],
+                                     {n[8], n[9], n[10]}, {n[11], n[12], n[13]}};
         uint8_t ranks = (uint8_t)number(1);
         lend(&beams, function, count / PLACES, number(2));
         for (size_t i = 0; i < beams.len; i++) beams.at[i] = beams_as_lent[i] = (uint8_t)number(1);
         // Numbers of 16 bits start at even addresses only.
-        size_t width = function == WEIGHTS ? sizeof(int16_t) : sizeof(uint8_t), buffer_len = number(2);
+        size_t width = of_weights ? sizeof(int16_t) : sizeof(uint8_t), buffer_len = number(2);
         lend(&buffer, function, width * count, width * buffer_len);
-        uint32_t fill = number(1);
-        for (size_t i = 0; i < buffer.len; i++) buffer.at[i] = (uint8_t)(fill + 37 * i);
+        uint8_t fill = (uint8_t)number(1);
+        for (size_t i = 0; i < buffer.len; i++, fill = (uint8_t)(fill + 37)) buffer.at[i] = fill;
+        int16_t *weights = (int16_t *)(void *)buffer.at;
 
+        aspenflick_record record = {0, 0, 0, 0};
         paint();
-        aspenflick_record record =
-            function == WEIGHTS
-                ? aspenflick_weights(report, beams.at, beams.len, ranks, (int16_t *)(void *)buffer.at, buffer_len)
-                : aspenflick_phases(report, beams.at, beams.len, ranks, buffer.at, buffer_len);
+        switch (function) {
+        case PHASES: record = aspenflick_phases(r, beams.at, beams.len, ranks, buffer.at, buffer_len); break;
+        case WEIGHTS: record = aspenflick_weights(r, beams.at, beams.len, ranks, weights, buffer_len); break;
+        case PANEL_PHASES: record = aspenflick_panel_phases(p, beams.at, beams.len, ranks, buffer.at, buffer_len); break;
+        case PANEL_WEIGHTS: record = aspenflick_panel_weights(p, beams.at, beams.len, ranks, weights, buffer_len); break;
+        }
         uint32_t used = stack_used();
         if (used > deepest[function]) deepest[function] = used;
 
@@ -157,8 +170,8 @@ int main(void) {
         put_number(record.ports);
         put_number(record.layers);
         put_number(record.scale);
-        put((uint8_t)intact);
-        for (size_t i = 0; i < buffer.len; i++) put(buffer.at[i]);
+        put(&(uint8_t){(uint8_t)intact}, 1);
+        put(buffer.at, buffer.len);
     }
     for (int function = 0; function < FUNCTIONS; function++) put_number(deepest[function]);
     flush();
