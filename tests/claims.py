@@ -8,8 +8,10 @@ CLAIMS: every theorem of Demands has its row, in order, and every theorem named 
 table is `| theorem | demand | ..` and speaks of Demands.antt; a row of the others is `| theorem | file | ..`. Names in the
 text must stand in one of the tables.
 RULES: a section `### [file](..)` has rows `| definition | rule |`; each definition is found in that file, in its order.
-Header: a row of the table has the mode, the ranks, the values of i11, i12, i13 and i2, and for which P; a letter behind a
-value leads to where it is another. For every setting, mode and rank one row is meant, and its values are precoder.py's.
+Header: a row of the first table has the mode, the ranks, the values of i11, i12, i13 and i2, and for which P; a letter
+behind a value leads to where it is another. A row of the second has the ranks, those values and the three of i2 in either
+mode; those of i14 stand in a line below it. For every setting, mode and rank one row is meant, and its values are those of
+precoder.py and of panels.py.
 The last line is `N passed, M failed`.
 
 Needs Python 3.9; takes a moment. Status 1: a test failed; 2: wrong words.
@@ -18,6 +20,7 @@ import re
 import sys
 from pathlib import Path
 
+import panels
 from precoder import MODES, SETTINGS, ranks_of, values
 
 ROOT = Path(__file__).resolve().parent.parent
@@ -91,9 +94,32 @@ def values_in_header(header, s, mode, v):
             yield tuple(value_of(cell, notes, s) for cell in cells[:4])
 
 
+PANEL_ROW = re.compile(r"^//     v = (\d)(?:, (\d))?  +(.*)$", re.M)
+PANEL_PHASES = re.compile(r"(\d \d \d) with (two|four) panels(?: in mode (\d))?")
+
+
+def panel_values_in_header(header, s, mode, v):
+    """The same of the second table, with three values of i14 and three of i2."""
+    notes, words = dict(NOTE.findall(header)), {2: "two", 4: "four"}
+    for found in PANEL_ROW.finditer(header):
+        if str(v) not in (found[1], found[2]):
+            continue
+        *cells, in_mode_1, in_mode_2 = re.split("  +", found[3])
+        i2 = in_mode_1 if mode == 1 else in_mode_2
+        for i14, panels_word, in_mode in PANEL_PHASES.findall(header):
+            if panels_word == words[s.Ng] and in_mode in ("", str(mode)):
+                yield (*(value_of(cell, notes, s) for cell in cells), *map(int, i14.split()), *map(int, i2.split()))
+
+
 def of_header():
-    """The tests of the header's table."""
+    """The tests of the header's tables."""
     header = read("include/aspenflick.h")
+    for s in panels.SETTINGS.values():
+        for mode in panels.modes_of(s):
+            for v in panels.ranks_of(s):
+                found = list(panel_values_in_header(header, s, mode, v))
+                name = f"the header's values at ({s.Ng},{s.N1},{s.N2}), mode {mode}, v = {v}"
+                yield name, found == [panels.values(s, mode, v)]
     for s in SETTINGS.values():
         for mode in MODES:
             for v in ranks_of(s):
