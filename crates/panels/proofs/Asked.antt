@@ -14,13 +14,12 @@ use Rattle.ground.proofs.Booleans.{either, cond-both}
 use Rattle.settings.specs.declared.Beam.{Beam}
 use Rattle.settings.specs.declared.Sizes.{Sizes}
 use Rattle.settings.specs.Settings.{ports, maskBytes, sizesOf}
-use Rattle.settings.specs.Ranges.{beam}
 use Rattle.settings.proofs.Steps.{sized}
 use Rattle.masks.specs.declared.Needs.{Needs}
 use Rattle.masks.specs.Admitted.{bitsOf}
 use Rattle.masks.specs.Asks.{Asks}
 use Rattle.panels.specs.declared.PanelReport.{PanelReport}
-use Rattle.panels.specs.Panels.{isPanelSetting, panelPorts, B, B′, reached, rule, InRange, bitsRead, indices}
+use Rattle.panels.specs.Panels.{isPanelSetting, panelPorts, B′, reached, rule, InRange, bitsRead, indices}
 use Rattle.panels.specs.Panels.{ownOrder, panels}
 use Rattle.panels.specs.Drawing.{HasBeams}
 use Rattle.panels.proofs.Known.{known}

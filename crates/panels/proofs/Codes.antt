@@ -10,7 +10,7 @@ use Rattle.ground.specs.Lists.{every}
 use Rattle.ground.proofs.Tests.{every-at, two-eq}
 use Rattle.turn.specs.Phase.{half, phase}
 use Rattle.plan.specs.Drawing.{placeOf, takes, marked, coAt, coRow}
-use Rattle.panels.specs.Panels.{φ, a, b, coPhases, Name, B, B′, Column, W¹, W², beamOf, minus}
+use Rattle.panels.specs.Panels.{φ, a, b, coPhases, B, B′, Column, W¹, W², beamOf, minus}
 use Rattle.panels.specs.Drawing.{place, codeOf}
 
 -- a(p)·b(n) is p + n quarters of a turn
@@ -35,7 +35,8 @@ code-takes (W² B′) = refl
 abbrev rightMarks : Column → ℕ → Bool
 rightMarks c i = eqb (marked (codeOf c) (2 * i)) 0 && eqb (marked (codeOf c) (2 * i + 1)) (cond (minus c) 1 0)
 
-code-marks : (c : Column) (i : ℕ) → i < 4 → (marked (codeOf c) (2 * i) ≡ 0) × (marked (codeOf c) (2 * i + 1) ≡ cond (minus c) 1 0)
+code-marks : (c : Column) (i : ℕ) → i < 4
+    → (marked (codeOf c) (2 * i) ≡ 0) × (marked (codeOf c) (2 * i + 1) ≡ cond (minus c) 1 0)
 unfolding every
 code-marks c i h = two-eq _ 0 _ _ (every-at 4 (rightMarks c) (all c) i h)
   where
@@ -53,8 +54,8 @@ module _ (c : Column) (co : List ℕ) where
     pub first : phase (coAt co (codeOf c) (2 * i)) ≡ phase (x .0)
     pub second : phase (coAt co (codeOf c) (2 * i + 1)) ≡ phase (x .1 + cond (minus c) half 0)
 
-  pub panel : (i : ℕ) (x : ℕ × ℕ) → i < 4 → phase (getD co (2 * i) 0) ≡ phase (x .0) → phase (getD co (2 * i + 1) 0) ≡ phase (x .1)
-      → Panel i x
+  pub panel : (i : ℕ) (x : ℕ × ℕ) → i < 4
+      → phase (getD co (2 * i) 0) ≡ phase (x .0) → phase (getD co (2 * i + 1) 0) ≡ phase (x .1) → Panel i x
   unfolding coAt
   panel i x h p q =
       let (even, odd) = code-marks c i h in

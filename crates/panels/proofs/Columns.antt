@@ -1,9 +1,9 @@
 -- The layers of a report: their beams, and their co-phases panel by panel.
 use mathlib.Core.Path.{_≡_, refl, sym, ap, ap₂, _∙_}
 use mathlib.Core.Bool.{Bool, true, false, not, cond}
-use mathlib.Core.List.{List, [], _∷_, map}
-use Prim.Native.Nat.{ℕ, suc, _+_, _-_, _*_, _%_, _<_, _≤_}
-use native.Mathlib.Nat.{mod-lt, mod-eq-of-lt, zero-mul, mul-zero, add-zero}
+use mathlib.Core.List.{List, [], _∷_}
+use Prim.Native.Nat.{ℕ, suc, _+_, _-_, _*_, _%_, _<_}
+use native.Mathlib.Nat.{mod-lt, mod-eq-of-lt, mul-zero, add-zero}
 use native.Mathlib.Omega.{arith}
 use lib.Dec.{T, eqb, eqb→eq}
 use lib.ListN.{length, getD, length-map}
@@ -21,7 +21,7 @@ use Rattle.settings.specs.Ranges.{beam}
 use Rattle.settings.proofs.Known as one
 use Rattle.plan.specs.Plan.{layerAt}
 use Rattle.panels.specs.declared.PanelReport.{PanelReport}
-use Rattle.panels.specs.Panels.{coefficients, coPhases, Name, B, B′, Column, W¹, byRank, reached, layerOf, plan}
+use Rattle.panels.specs.Panels.{coefficients, coPhases, Name, B, Column, W¹, byRank, reached, layerOf, plan}
 use Rattle.panels.specs.Panels.{InRange}
 use Rattle.panels.proofs.InRange.{set, v-some, v-few, mode-two, four-panels}
 
@@ -57,7 +57,8 @@ half-agree (c ∷ cs) false true t = omega (arith, half-agree cs false true t)
 half-agree (c ∷ cs) true true t = absurd t
 half-agree (c ∷ cs) false false t = absurd t
 
-pub marks-even : (cs : List (ℕ × ℕ)) (m n : Bool) → T (cond m (not n) n) → Even (length (plain cs)) (marks cs m) (marks cs n)
+pub marks-even : (cs : List (ℕ × ℕ)) (m n : Bool) → T (cond m (not n) n)
+    → Even (length (plain cs)) (marks cs m) (marks cs n)
 marks-even cs m n t =
     record { first = length-marks cs m; second = length-marks cs n; even = half-agree cs m n t }
 

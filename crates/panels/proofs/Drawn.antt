@@ -69,14 +69,16 @@ module _ (r : PanelReport) (h : InRange r) (j : ℕ) (k : j < r .v) where
   unfolding codesOf byRank every
   code-is =
       let same : ℕ → ℕ → Bool = λ v j. eqb (getD (codesOf v) j 0) (codeOf (column v j)) in
-      eqb→eq _ _ (every-at (r .v) (same (r .v)) (every-at 5 (λ v. every v (same v)) tt (r .v) (omega (arith, v-few r h))) j k)
+      let rank = every-at 5 (λ v. every v (same v)) tt (r .v) (omega (arith, v-few r h)) in
+      eqb→eq _ _ (every-at (r .v) (same (r .v)) rank j k)
 
   column-drawn : columnAt (drawingOf r) (getD (drawingOf r .codes) j 0) ≡ columnOf (plan r) (layerAt (plan r) j)
   unfolding drawingOf columnAt columnOf layerOf
   column-drawn =
       let c = column (r .v) j in
       rw (layer-is r h j k, code-is, code-place c)
-      (ap (columnPhases _) (beam-at r h (beamOf c)) ∙ column-same _ (coPhases (coefficients r) (minus c)) _ (co-drawn r h c))
+      (ap (columnPhases _) (beam-at r h (beamOf c))
+      ∙ column-same _ (coPhases (coefficients r) (minus c)) _ (co-drawn r h c))
 
 pub drawing-draws : (r : PanelReport) → InRange r → Draws (plan r) (drawingOf r)
 unfolding drawingOf

@@ -1,13 +1,13 @@
 -- A report is in range just where none of its own refusals applies, and then its numbers are small.
 use mathlib.Core.Path.{_≡_, sym, subst}
 use mathlib.Core.Logic.{inl, inr}
-use mathlib.Core.Bool.{Bool, true, false, not, _&&_, _||_}
+use mathlib.Core.Bool.{Bool, false, _&&_, _||_}
 use mathlib.Core.List.{List}
 use Prim.Native.Nat.{ℕ, _<_, _≤_}
 use native.Mathlib.Omega.{arith}
 use lib.Dec.{T, eqb, leb, ltb, eqb→eq}
 use lib.ListN.{getD}
-use borrow.Author.Tests.{not-true, not-false, leb-false, ltb-false, eqb-true, eqb-false, lt-leb, ne-eqb}
+use borrow.Author.Tests.{not-true, not-false, leb-false, ltb-false, eqb-false, lt-leb}
 use Rattle.ground.specs.Lists.{among}
 use Rattle.ground.specs.First.{first, numbered, None}
 use Rattle.ground.proofs.Booleans.{cond-both, or-false}

@@ -1,20 +1,19 @@
 -- What is known of every setting of panels: tests computed over the list of them, and lifted to each.
-use mathlib.Core.Path.{_≡_, refl, sym, ap, subst, _∙_}
+use mathlib.Core.Path.{_≡_, refl, sym, subst, _∙_}
 use mathlib.Core.Bool.{Bool, true, false, cond, Bool·beq, _&&_, _||_}
-use Prim.Native.Nat.{ℕ, _*_, _/_, _%_, _<_, _≤_}
+use Prim.Native.Nat.{ℕ, _*_, _/_, _%_, _≤_}
 use native.Mathlib.Omega.{arith}
 use lib.Dec.{T, eqb, leb, ltb, eqb→eq, leb→le, ltb→lt}
 use lib.ListN.{length}
-use borrow.Author.Tests.{eq-eqb, ne-eqb}
 use Rattle.ground.specs.Lists.{some, each}
 use Rattle.ground.proofs.Booleans.{either, is-true, is-false, same-truth}
-use Rattle.ground.proofs.Tests.{and-left, and-right, or-cases, or-else, two-eq}
+use Rattle.ground.proofs.Tests.{and-left, and-right, two-eq}
 use Rattle.ground.proofs.Lists.{at-some}
 use Rattle.turn.specs.Phase.{turn, thirtySecond}
 use Rattle.settings.specs.Settings.{settings, isSetting, ports, across, down, sizesOf}
 use Rattle.settings.specs.Ranges.{kTwo}
 use Rattle.settings.proofs.Known.{at-setting}
-use Rattle.panels.specs.Panels.{panelSettings, isPanelSetting, panelPorts, kThreeFour, panelRows}
+use Rattle.panels.specs.Panels.{panelSettings, isPanelSetting, panelPorts, kThreeFour}
 
 module _ (ng n1 n2 : ℕ) where
   -- a test that passes at every setting passes at this one
@@ -88,7 +87,8 @@ by-ports ng n1 n2 =
     (λ f. rw (e, f) (neither (eqb (ports n1 n2) 16) (eqb (ports n1 n2) 8 || eqb (ports n1 n2) 4))))))
     (λ none.
     rw none
-    (is-false (isPanelSetting ng n1 n2) (λ e. subst (λ (t : Bool). cond t ⊥ (T true)) (sym none ∙ known ng n1 n2 e .one-panel) tt)))
+    (is-false (isPanelSetting ng n1 n2)
+    (λ e. subst (λ (t : Bool). cond t ⊥ (T true)) (sym none ∙ known ng n1 n2 e .one-panel) tt)))
   where
     neither : (s t : Bool) → cond s false (cond t false false) ≡ false
     neither true t = refl

@@ -11,7 +11,7 @@ use borrow.Author.Tests.{eqb-true}
 use Rattle.ground.specs.Lists.{among}
 use Rattle.ground.specs.First.{numbered, part}
 use Rattle.ground.proofs.Tests.{or-cases, or-left, or-right}
-use Rattle.settings.specs.Settings.{across, down, maskBytes}
+use Rattle.settings.specs.Settings.{down, maskBytes}
 use Rattle.settings.proofs.Known.{mask-bits}
 use Rattle.plan.specs.Plan.{layerAt}
 use Rattle.plan.specs.Lawful.{Lawful}
@@ -39,7 +39,8 @@ module _ (r : PanelReport) where
   is-read true x h = or-left (eqb (beamBit r x) (beamBit r B)) _ (rw (h refl) (eqb-refl (beamBit r B)))
   is-read false B h = or-left (eqb (beamBit r B) (beamBit r B)) _ (eqb-refl (beamBit r B))
   is-read false B′ h =
-      or-right (eqb (beamBit r B′) (beamBit r B)) _ (or-left (eqb (beamBit r B′) (beamBit r B′)) _ (eqb-refl (beamBit r B′)))
+      or-right (eqb (beamBit r B′) (beamBit r B)) _
+      (or-left (eqb (beamBit r B′) (beamBit r B′)) _ (eqb-refl (beamBit r B′)))
 
   -- and what is read is the bit of a beam
   read-is : (P : ℕ → Type 0) → ((x : Name) → P (beamBit r x)) → (single : Bool) (k : ℕ) → T (among k (both single)) → P k

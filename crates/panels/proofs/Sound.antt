@@ -1,7 +1,7 @@
 -- The plan of a report in range is sound.
 use mathlib.Core.Path.{_≡_, refl, ap, _∙_}
 use mathlib.Core.Logic.{_≢_, inl, inr}
-use mathlib.Core.Bool.{Bool, true, false, not, cond, _||_}
+use mathlib.Core.Bool.{Bool, not, cond, _||_}
 use Prim.Native.Nat.{ℕ, _*_, _%_, _<_, _≤_}
 use native.Mathlib.Nat.{mul-comm}
 use native.Mathlib.Omega.{arith}
@@ -13,11 +13,10 @@ use Rattle.settings.specs.declared.Beam.{Beam}
 use Rattle.settings.specs.Settings.{o1, o2}
 use Rattle.settings.specs.Ranges.{beam, kTwo}
 use Rattle.settings.proofs.Known as one
-use Rattle.plan.specs.Plan.{layerAt}
 use Rattle.plan.specs.Sound.{StepsFrom, Told, by-co-phases, by-beams, Sound}
 use Rattle.plan.proofs.Told.{twoBeams, two-beams}
 use Rattle.panels.specs.declared.PanelReport.{PanelReport}
-use Rattle.panels.specs.Panels.{panelSettings, kThreeFour, panelRows, coefficients, Name, B, B′, Column, beamOf}
+use Rattle.panels.specs.Panels.{panelSettings, kThreeFour, panelRows, coefficients, Column, beamOf}
 use Rattle.panels.specs.Panels.{minus, byRank, kOf, offset, reached, layerOf, plan, InRange}
 use Rattle.panels.proofs.Known.{at-panels}
 use Rattle.panels.proofs.InRange.{set, v-some, v-few}

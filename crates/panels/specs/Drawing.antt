@@ -1,7 +1,7 @@
 -- What the writer is handed of a report.
 use mathlib.Core.Path.{_≡_}
 use mathlib.Core.List.{List, [], _∷_, _++_, map}
-use Prim.Native.Nat.{ℕ, _+_, _-_, _*_, _/_}
+use Prim.Native.Nat.{ℕ, _+_, _*_, _/_}
 use lib.Dec.{eqb}
 use lib.ListN.{getD, take, replicate}
 use Rattle.ground.specs.Cases.{_⇒_∣_}
@@ -23,9 +23,9 @@ abbrev pub codeOf : Column → ℕ
 codeOf (W¹ x) = 512 * place x + 256
 codeOf (W² x) = 512 * place x + 256 + 0b10101010
 
--- the codes of a rank, in eight places
+-- the codes of a rank, in eight places: those of two layers, or of four, which one and three begin with
 unfoldable pub codesOf : ℕ → List ℕ
-codesOf v = take 8 (map codeOf (getD byRank (v - 1) []) ++ replicate 8 0)
+codesOf v = take 8 (map codeOf (getD byRank (eqb v 2 ⇒ 1 ∣ 3) []) ++ replicate 8 0)
 
 -- the co-phases of W¹ in whole quarters of a turn, in eight places
 unfoldable pub quartersOf : PanelReport → List ℕ

@@ -18,41 +18,24 @@ ghost use Rattle.masks.specs.Asks.{Asks};
 ghost use Rattle.panels.specs.Panels.{B′, kOf, reached, InRange, indices, panels};
 ghost use Rattle.panels.specs.Drawing.{HasBeams, codesOf, quartersOf, inParts, drawingOf};
 
-// The codes of one to four layers: 512 for B', 256 for the co-phases, and 170 where half a turn is added to the second
-// polarisation of every panel.
-const ONE: [u16; 8] = [256, 0, 0, 0, 0, 0, 0, 0]; // W1 B
-
+// The codes of two layers, and of four: 512 for B', 256 for the co-phases, and 170 where half a turn is added to the second
+// polarisation of every panel. One layer and three have the first of the four.
 const TWO: [u16; 8] = [256, 938, 0, 0, 0, 0, 0, 0]; // W1 B, W2 B'
-
-const THREE: [u16; 8] = [256, 768, 426, 0, 0, 0, 0, 0]; // W1 B, W1 B', W2 B
 
 const FOUR: [u16; 8] = [256, 768, 426, 938, 0, 0, 0, 0]; // W1 B, W1 B', W2 B, W2 B'
 
 // The codes of v layers.
 fn codes_of(v: u32) -> [u16; 8]
-    requires { ⌜ (1 ≤ v) × (v ≤ 4) ⌝ }
     ensures { λ c. ⌜ c ≡ codesOf v ⌝ }
 {
-    if v == 1 {
-        return ONE;
-    }
-    if v == 2 {
-        return TWO;
-    }
-    if v == 3 {
-        return THREE;
-    }
-    FOUR
+    if v == 2 { TWO } else { FOUR }
 }
 
-// The row of k for i13. Those of v = 3 and 4 stand after (0,0).
+// The row of k for i13 from two layers on. Those of v = 3 and 4 stand after (0,0).
 fn k_of(r: PanelReport) -> Beam
-    requires { ⌜ InRange r ⌝ }
+    requires { ⌜ InRange r × (r .v ≡ 1 → ⊥) ⌝ }
     ensures { λ k. ⌜ k ≡ kOf r ⌝ }
 {
-    if r.v == 1 {
-        return Beam { l: 0, m: 0 };
-    }
     if r.v == 2 {
         if r.n1 == r.n2 {
             return settings::k_at(r.n2, r.i13, 4);
@@ -62,11 +45,14 @@ fn k_of(r: PanelReport) -> Beam
     settings::k_at(r.n2, r.i13 + 1, 4)
 }
 
-// B', reduced. For N2 = 1 there is one m, whatever O2.
+// B', reduced; one layer has B alone. For N2 = 1 there is one m, whatever O2.
 fn second_beam(r: PanelReport, s: Sizes) -> Beam
     requires { ⌜ InRange r × (s ≡ sizesOf (r .n1) (r .n2)) ⌝ }
     ensures { λ x. ⌜ x ≡ reached r B′ ⌝ }
 {
+    if r.v == 1 {
+        return Beam { l: r.i11, m: r.i12 };
+    }
     let k = k_of(r);
     Beam {
         l: (r.i11 + 4 * k.l) % s.across,

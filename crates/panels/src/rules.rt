@@ -8,8 +8,8 @@ ghost use lib.Dec.{eqb};
 ghost use Rattle.ground.specs.Cases.{_⇒_∣_};
 ghost use Rattle.ground.specs.First.{first};
 ghost use Rattle.settings.specs.Settings.{sizesOf};
-ghost use Rattle.panels.specs.Panels.{isPanelSetting, modeFits, rankFits, i14Values, i2Values, outside, rule};
-ghost use Rattle.panels.specs.Panels.{indices, ownOrder};
+ghost use Rattle.panels.specs.Panels.{isPanelSetting, modeFits, i14Values, i2Values, outside, rule};
+ghost use Rattle.panels.specs.Panels.{ownOrder};
 
 // Two panels or four.
 fn is_two_or_four(ng: u32) -> bool
@@ -136,10 +136,10 @@ fn on_setting(r: PanelReport, s: Sizes) -> u32
     0
 }
 
-// The first of 6, 7, 8, 12 and 9 that applies, or 0, at a setting.
-fn on_indices(r: PanelReport, s: Sizes) -> u32
+// The first of 6, 7 and 8 that applies, or 0, at a setting.
+fn on_beams(r: PanelReport, s: Sizes) -> u32
     requires { ⌜ (s ≡ sizesOf (r .n1) (r .n2)) × (isPanelSetting (r .ng) (r .n1) (r .n2) ≡ true) ⌝ }
-    ensures { λ k. ⌜ k ≡ first (rule r) indices ⌝ }
+    ensures { λ k. ⌜ k ≡ first (rule r) (6 ∷ 7 ∷ 8 ∷ []) ⌝ }
 {
     if s.across <= r.i11 {
         return 6;
@@ -150,6 +150,13 @@ fn on_indices(r: PanelReport, s: Sizes) -> u32
     if i13_values(s.ports, r.v) <= r.i13 {
         return 8;
     }
+    0
+}
+
+// The first of 12 and 9 that applies, or 0.
+fn on_phases(r: PanelReport) -> u32
+    ensures { λ k. ⌜ k ≡ first (rule r) (12 ∷ 9 ∷ []) ⌝ }
+{
     let i14 = r.i14;
     if is_outside(i14_values(r.ng, r.mode), i14) {
         return 12;
@@ -170,5 +177,9 @@ pub fn refusal(r: PanelReport, s: Sizes) -> u32
     if k != 0 {
         return k;
     }
-    on_indices(r, s)
+    let n = on_beams(r, s);
+    if n != 0 {
+        return n;
+    }
+    on_phases(r)
 }

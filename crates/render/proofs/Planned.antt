@@ -10,8 +10,8 @@ use borrow.Author.Needs.{needs}
 use borrow.Author.Tests.{le-leb}
 use Rattle.ground.specs.Lists.{join, all-nil}
 use Rattle.ground.proofs.All.{all-append, all-each}
-use Rattle.turn.specs.Phase.{turn, eighth, thirtySecond}
-use Rattle.turn.specs.Column.{step, beam}
+use Rattle.turn.specs.Phase.{turn, thirtySecond}
+use Rattle.turn.specs.Column.{beam}
 use Rattle.turn.specs.Cancel.{Multiples}
 use Rattle.turn.proofs.Steps.{left-pos}
 use Rattle.turn.proofs.Multiples.{step-multiple, multiples-grid, multiples-column}
@@ -19,7 +19,7 @@ use Rattle.weight.specs.Table.{weight, numbers}
 use Rattle.plan.specs.declared.Drawing.{Drawing}
 use Rattle.plan.specs.Plan.{Layer, Plan, past, layerAt, columnOf, matrix}
 use Rattle.plan.specs.Sound.{Sound}
-use Rattle.plan.specs.Drawing.{entries, height, drawable, layersIn, Draws}
+use Rattle.plan.specs.Drawing.{entries, height, layersIn, Draws}
 use Rattle.plan.proofs.Matrix.{length-matrix}
 use Rattle.writer.proofs.Drawn.{drawn-matrix, sizes-drawable}
 use Rattle.writer.proofs.Room.{layers-drawn}
@@ -88,7 +88,7 @@ module _ (p : Plan) (s : Drawing) (sound : Sound p) (draws : Draws p s) where
       all-append (h 0 (omega arith)) (multiples-join g f xs (λ j k. h (suc j) (omega arith)))
 
   -- where the plan is coarse, every phase is a whole 32nd of a turn
-  matrix-coarse : Coarse p → Multiples thirtySecond (matrix p)
+  pub matrix-coarse : Coarse p → Multiples thirtySecond (matrix p)
   unfolding matrix columnOf beam
   matrix-coarse d =
       let c = p .block in

@@ -3,18 +3,15 @@ use mathlib.Core.Path.{_≡_, refl, ap, ap₂, _∙_}
 use mathlib.Core.Bool.{cond}
 use mathlib.Core.List.{List, [], _∷_, map}
 use Prim.Native.Nat.{ℕ, zero, suc, _+_, _*_, _/_, _%_, _<_}
-use native.Mathlib.Nat.{mod-eq-of-lt, mul-le-mul-right}
 use native.Mathlib.Omega.{arith}
 use lib.Dec.{T, eqb, eqb→eq}
 use lib.ListN.{getD}
 use Rattle.ground.proofs.Booleans.{either}
 use Rattle.ground.specs.Lists.{every}
 use Rattle.ground.proofs.Tests.{every-at}
-use Rattle.turn.specs.Phase.{turn, half, phase}
-use Rattle.turn.specs.Column.{step, beam as beamOf, column}
+use Rattle.turn.specs.Phase.{half, phase}
+use Rattle.turn.specs.Column.{beam as beamOf, column}
 use Rattle.turn.proofs.Columns.{column-same}
-use Rattle.turn.proofs.Steps.{right-pos}
-use Rattle.settings.specs.Settings.{across, down}
 use Rattle.settings.specs.Ranges.{beam}
 use Rattle.report.specs.declared.Report.{Report}
 use Rattle.report.specs.Rules.{InRange}

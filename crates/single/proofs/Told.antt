@@ -1,16 +1,16 @@
 -- Any two layers of a report in range are told apart, by their co-phases or by their beams.
 use mathlib.Core.Path.{_≡_, refl, sym, ap, _∙_}
 use mathlib.Core.Logic.{_≢_, _⊎_, inl, inr, ⊎-map}
-use mathlib.Core.Bool.{Bool, true, false, cond, not, Bool·beq, _&&_, _||_}
+use mathlib.Core.Bool.{Bool, true, false, cond, Bool·beq, _&&_, _||_}
 use mathlib.Core.List.{List, [], _∷_, map}
 use Prim.Native.Nat.{ℕ, _+_, _/_, _%_, _<_}
 use native.Mathlib.Nat.{add-zero, mul-comm}
 use native.Mathlib.Omega.{arith}
-use lib.Dec.{T, eqb, eqb→eq, T-not}
+use lib.Dec.{T, eqb, eqb→eq}
 use lib.ListN.{length, getD, List·getD-map}
 use Rattle.ground.specs.Lists.{each, all-nil, all-cons}
 use Rattle.ground.proofs.Booleans.{either, same-truth}
-use Rattle.ground.proofs.Tests.{and-left, and-right, or-cases, eq→eqb, two-eq}
+use Rattle.ground.proofs.Tests.{and-left, and-right, or-cases, two-eq}
 use Rattle.ground.proofs.Lists.{map-at}
 use Rattle.turn.specs.Phase.{turn, quarter, twelfth, difference}
 use Rattle.turn.specs.Column.{Setting}

@@ -1,8 +1,7 @@
 -- `admit_two` meets its contract: each return gives the number of its case.
-use mathlib.Core.Path.{_≡_, sym, ap, _∙_}
-use mathlib.Core.Bool.{cond}
+use mathlib.Core.Path.{_≡_, sym, _∙_}
 use Prim.Native.Nat.{ℕ}
-use native.Mathlib.Nat.{le-of-suc-le-suc, le-refl}
+use native.Mathlib.Nat.{le-of-suc-le-suc}
 use native.Mathlib.Omega.{arith}
 use lib.Dec.{ltb}
 use denote.Ref.{now}
@@ -54,7 +53,9 @@ returns-3 c =
     c .short-of .ensures ∙ sym (past-first (c .before .before .before) ∙ rw (le-ltb 1 _ one, none-past _ _ _ _ 0 _ one))
 
 -- two beams: the second bit is the last
-past-second : (c : tie.After-is-zero2) → let e = c .before .before .before in let a = e .before .before .before .before .before .before .before .args in
+past-second : (c : tie.After-is-zero2)
+    → let e = c .before .before .before in
+    let a = e .before .before .before .before .before .before .before .args in
     admitted (upToTwo (a .x)) (now (a .mask)) (a .ranks) (a .room)
     ≡ (c .is-zero2 .result ⇒ 10 ∣ ltb (a .room) (a .x .entries) ⇒ 11 ∣ 0)
 past-second c =

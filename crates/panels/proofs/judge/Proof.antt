@@ -55,14 +55,16 @@ module _ (c : tie.Else1) where
   in-range : InRange (start (c .before) .args .r)
   in-range =
       let a = start (c .before) .args in
-      accepted-in-range panels panels-lawful (a .r) (now (a .mask)) (a .ranks) (a .room) (sym (number (c .before)) ∙ c .if1 .left)
+      accepted-in-range panels panels-lawful (a .r) (now (a .mask)) (a .ranks) (a .room)
+      (sym (number (c .before)) ∙ c .if1 .left)
 
   own-zero : c .before .before .needs-of .result .refusal ≡ 0
   own-zero = c .before .before .needs-of .ensures .0 .refusal-is ∙ in-range-zero _ in-range
 
 returns : tie.Need-returns
 returns c =
-    c .refuse .ensures ∙ refused-judged _ _ (c .before .before .admit-two .result) _ (c .before .if1 .taken) (number (c .before .before))
+    let k = c .before .before in
+    c .refuse .ensures ∙ refused-judged _ _ (k .admit-two .result) _ (c .before .if1 .taken) (number k)
 
 drawing-of-requires : tie.Need-drawing-of-requires
 drawing-of-requires c κs =

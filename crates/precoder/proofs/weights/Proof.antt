@@ -11,10 +11,14 @@ use Rattle.precoder.proofs.weights.Statement.{statement}
 use Rattle.precoder.proofs.weights.Tie as tie
 
 returns : tie.Need-returns
-returns c = judged.refused-answers single single-lawful drawingOf drawing-draws _ _ _ _ (c .before .before .before .judge .ensures) _ _ (c .before .if1 .taken)
+returns c =
+    judged.refused-answers single single-lawful drawingOf drawing-draws _ _ _ _
+    (c .before .before .before .judge .ensures) _ _ (c .before .if1 .taken)
 
 rem-weights : tie.Need-rem-weights
-rem-weights c = judged.ports-some single single-lawful drawingOf drawing-draws _ _ _ _ (c .before .before .before .judge .ensures) (c .before .if1 .left)
+rem-weights c =
+    judged.ports-some single single-lawful drawingOf drawing-draws _ _ _ _
+    (c .before .before .before .judge .ensures) (c .before .if1 .left)
 
 returns-2 : tie.Need-returns-2
 returns-2 c =

@@ -1,5 +1,4 @@
 -- `layers::co_of` meets its contract: its tests are those of the drawing, and its sums are small.
-use mathlib.Core.Path.{_≡_}
 use native.Mathlib.Omega.{arith}
 use borrow.Author.Needs.{needs}
 use borrow.Author.Tests.{eq-eqb, ne-eqb}

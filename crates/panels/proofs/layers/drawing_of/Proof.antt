@@ -9,7 +9,7 @@ use Rattle.settings.proofs.Known as one
 use Rattle.settings.proofs.Steps.{Sized, sized}
 use Rattle.panels.specs.Panels.{Name, B, B′, reached}
 use Rattle.panels.specs.Drawing.{drawingOf}
-use Rattle.panels.proofs.InRange.{set, v-some, v-few}
+use Rattle.panels.proofs.InRange.{set}
 use Rattle.panels.proofs.Columns.{within}
 use Rattle.panels.proofs.layers.drawing_of.Statement.{statement}
 use Rattle.panels.proofs.layers.drawing_of.Tie as tie
@@ -49,11 +49,6 @@ step-of-requires-2 c κs =
     let s = c .before .before .before in
     small s B′ (second-of (s .pre .2 .l)) (second-of (s .pre .2 .m))
 
-codes-of-requires : tie.Need-codes-of-requires
-codes-of-requires c κs =
-    let h = c .before .before .before .before .before .pre .0 in
-    (v-some _ h, v-few _ h)
-
 returns : tie.Need-returns
 unfolding drawingOf
 returns c =
@@ -84,5 +79,5 @@ drawing-of-spec =
     (λ c. search needs)
     step-of-requires-2
     (λ c κs. search needs)
-    codes-of-requires
+    (λ c κs. search needs)
     returns)

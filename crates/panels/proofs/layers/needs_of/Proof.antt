@@ -1,5 +1,5 @@
 -- `layers::needs_of` meets its contract: it hands over what the codebook asks for, and its beams.
-use mathlib.Core.Path.{_≡_, refl, sym, _∙_}
+use mathlib.Core.Path.{refl, sym, _∙_}
 use native.Mathlib.Omega.{arith}
 use borrow.Author.Needs.{needs}
 use Rattle.panels.specs.Panels.{InRange}
@@ -13,8 +13,7 @@ in-range c = zero-in-range _ (sym (c .before .refusal .ensures) ∙ c .if1 .left
 
 returns : tie.Need-returns
 returns c =
-    let k = c .before .refusal .ensures in
-    (
+    let k = c .before .refusal .ensures in (
       asks _ (c .before .before .pre) _ k refl refl (λ h. absurd (c .if1 .taken (k ∙ in-range-zero _ h))),
       λ z. absurd (c .if1 .taken z),
       omega arith,

@@ -1,15 +1,18 @@
 -- `layers::second_beam` meets its contract: steps of 4 are steps of (O1,O2), and no number is large.
-use mathlib.Core.Path.{_≡_, ap, ap₂, _∙_}
+use mathlib.Core.Path.{_≡_, sym, ap, ap₂, _∙_}
 use Prim.Native.Nat.{ℕ, _+_, _*_, _%_, _<_, _≤_}
 use native.Mathlib.Omega.{arith}
-use borrow.Author.Needs.{needs}
+use borrow.Author.Tests.{eq-eqb}
 use Rattle.settings.specs.declared.Beam.{Beam}
+use Rattle.settings.specs.Settings.{o1, o2, across, down}
 use Rattle.settings.specs.Ranges.{beam}
 use Rattle.settings.proofs.Known as one
 use Rattle.settings.proofs.Steps.{Sized, sized, step-across, step-down}
-use Rattle.panels.specs.Panels.{reached}
+use Rattle.panels.specs.declared.PanelReport.{PanelReport}
+use Rattle.panels.specs.Panels.{B, B′, kOf, reached, InRange}
 use Rattle.panels.proofs.InRange.{set}
-use Rattle.panels.proofs.Rows.{Row, row-right}
+use Rattle.panels.proofs.Columns.{base-is}
+use Rattle.panels.proofs.Rows.{Row, rowAt, row-right}
 use Rattle.panels.proofs.layers.second_beam.Statement.{statement}
 use Rattle.panels.proofs.layers.second_beam.Tie as tie
 
@@ -29,33 +32,59 @@ module _ (s : tie.Start) where
   i12-few : s .args .r .i12 < 64
   i12-few = omega (arith, s .pre .0 .i12, panel .down-few)
 
+-- from two layers on
+abbrev start : tie.After-k-of → tie.Start
+start c = c .before .before .before
+
 module _ (c : tie.After-k-of) where
   l-small : c .k-of .result .l ≤ 4
-  l-small = rw (c .k-of .ensures) (row (c .before) .l-small)
+  l-small = rw (c .k-of .ensures) (row (start c) .l-small)
 
   m-small : c .k-of .result .m ≤ 4
-  m-small = rw (c .k-of .ensures) (row (c .before) .m-small)
+  m-small = rw (c .k-of .ensures) (row (start c) .m-small)
+
+by-row : (r : PanelReport) {k : Beam} → k ≡ kOf r
+    → beam ((r .i11 + o1 (r .n1) * k .l) % across (r .n1)) ((r .i12 + o2 (r .n2) * k .m) % down (r .n2)) ≡ reached r B′
+unfolding reached
+by-row r e = rw e
+
+-- one layer has a row of nothing
+alone : (r : PanelReport) → InRange r → r .v ≡ 1 → reached r B′ ≡ reached r B
+unfolding reached rowAt
+alone r h one = rw (sym (row-right r h .given), eq-eqb (r .v) 1 one)
 
 returns : tie.Need-returns
-unfolding reached
 returns c =
-    let k = c .before .before .before .before .before .before .k-of .ensures in
-    let s = c .before .before .before .before .before .before .before in
+    let s = c .before .before in
+    let h = s .pre .0 in
+    sym (alone _ h (c .if1 .taken) ∙ base-is _ h)
+
+returns-2 : tie.Need-returns-2
+unfolding reached
+returns-2 c =
+    let k = c .before .before .before .before .before .before in
+    let s = start k in
     let r = s .args .r in
-    let step = c .before .before .before .before .before .before .k-of .result in
-    let along = ap (λ (w : ℕ). (r .i11 + 4 * step .l) % w) (sizes s .across) ∙ step-across _ (r .i11) (step .l) (set _ (s .pre .0) .above-two) in
-    let upward = ap (λ (w : ℕ). (r .i12 + 4 * step .m) % w) (sizes s .down) ∙ step-down _ (r .i12) (step .m) (panel s .n2-some) in
-    ap₂ {C = Beam} beam along upward ∙ rw k
+    let step = k .k-of .result in
+    let along = ap (λ (w : ℕ). (r .i11 + 4 * step .l) % w) (sizes s .across) in
+    let upward = ap (λ (w : ℕ). (r .i12 + 4 * step .m) % w) (sizes s .down) in
+    ap₂ {C = Beam} beam
+    (along ∙ step-across _ (r .i11) (step .l) (set _ (s .pre .0) .above-two))
+    (upward ∙ step-down _ (r .i12) (step .m) (panel s .n2-some))
+    ∙ by-row r (k .k-of .ensures)
 
 pub second-beam-spec : {M : Type 1} → statement M
 second-beam-spec =
     tie.close
     (tie.spec
-    (λ c κs. search needs)
+    returns
+    (λ c κs. (c .before .before .pre .0, c .if1 .left))
     (λ c. omega (arith, l-small (c .before)))
-    (λ c. omega (arith, l-small (c .before .before), i11-few (c .before .before .before)))
-    (λ c. let s = c .before .before .before .before in omega (arith, sizes s .across, panel s .across-some))
+    (λ c. let k = c .before .before in omega (arith, l-small k, i11-few (start k)))
+    (λ c. let s = start (c .before .before .before) in omega (arith, sizes s .across, panel s .across-some))
     (λ c. omega (arith, m-small (c .before .before .before .before)))
-    (λ c. omega (arith, m-small (c .before .before .before .before .before), i12-few (c .before .before .before .before .before .before)))
-    (λ c. let s = c .before .before .before .before .before .before .before in omega (arith, sizes s .down, panel s .down-some))
-    returns)
+    (λ c. let k = c .before .before .before .before .before in omega (arith, m-small k, i12-few (start k)))
+    (λ c.
+    let s = start (c .before .before .before .before .before .before) in
+    omega (arith, sizes s .down, panel s .down-some))
+    returns-2)

@@ -21,12 +21,24 @@ returns-4 c =
 returns-5 : tie.Need-returns-5
 returns-5 c =
     let l = c .before in
-    rw (ne-eqb _ 1 (l .before .before .if1 .left), ne-eqb _ 2 (l .before .if2 .left), ne-eqb _ 4 (l .if4 .left), eq-eqb _ 8 (c .if5 .taken))
+    let more = l .before in
+    rw (
+      ne-eqb _ 1 (more .before .if1 .left),
+      ne-eqb _ 2 (more .if2 .left),
+      ne-eqb _ 4 (l .if4 .left),
+      eq-eqb _ 8 (c .if5 .taken),
+    )
 
 returns-6 : tie.Need-returns-6
 returns-6 c =
     let l = c .before in
-    rw (ne-eqb _ 1 (l .before .before .if1 .left), ne-eqb _ 2 (l .before .if2 .left), ne-eqb _ 4 (l .if4 .left), ne-eqb _ 8 (c .if5 .left))
+    let more = l .before in
+    rw (
+      ne-eqb _ 1 (more .before .if1 .left),
+      ne-eqb _ 2 (more .if2 .left),
+      ne-eqb _ 4 (l .if4 .left),
+      ne-eqb _ 8 (c .if5 .left),
+    )
 
 pub i13-values-spec : {M : Type 1} → statement M
 i13-values-spec =

@@ -23,4 +23,10 @@ returns-4 c =
 pub is-setting-spec : {M : Type 1} → statement M
 is-setting-spec =
     tie.close
-    (tie.spec (λ c. rw (eq-eqb _ 16 (c .if1 .taken))) (λ c κs. search needs) returns-2 (λ c κs. search needs) returns-3 returns-4)
+    (tie.spec
+    (λ c. rw (eq-eqb _ 16 (c .if1 .taken)))
+    (λ c κs. search needs)
+    returns-2
+    (λ c κs. search needs)
+    returns-3
+    returns-4)

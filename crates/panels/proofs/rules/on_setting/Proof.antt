@@ -1,8 +1,8 @@
 -- `rules::on_setting` meets its contract: its tests are those of the refusals, in their order.
 use mathlib.Core.Path.{_≡_, sym, ap, _∙_}
-use mathlib.Core.Bool.{true, false}
+use mathlib.Core.Bool.{true}
 use borrow.Author.Needs.{needs}
-use borrow.Author.Tests.{eq-eqb, ne-eqb, lt-ltb, le-ltb, not-true, not-false}
+use borrow.Author.Tests.{eq-eqb, ne-eqb, lt-ltb, le-ltb, not-false}
 use Rattle.ground.specs.First.{first}
 use Rattle.settings.specs.declared.Sizes.{Sizes}
 use Rattle.panels.specs.declared.PanelReport.{PanelReport}
