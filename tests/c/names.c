@@ -40,14 +40,45 @@ static const struct {
     {"NO_ROOM", ASPENFLICK_NO_ROOM, {4, 2, 1, 3, 1, 1, 1, 1}, 16, 47, 255},
 };
 
+// The same of two panels of (2,2) in mode 2, with two layers.
+static const struct {
+    const char *what;
+    uint32_t name;
+    aspenflick_panel_report report;
+    size_t bytes, room;
+    uint8_t ranks;
+} panel_cases[] = {
+    {"ACCEPTED, panels", ASPENFLICK_ACCEPTED, {2, 2, 2, 2, 2, 1, 1, 1, {1, 1, 0}, {1, 1, 1}}, 8, 32, 15},
+    {"NO_SETTING, panels", ASPENFLICK_NO_SETTING, {1, 2, 2, 2, 2, 1, 1, 1, {1, 1, 0}, {1, 1, 1}}, 8, 32, 15},
+    {"NO_MODE, panels", ASPENFLICK_NO_MODE, {4, 2, 2, 2, 2, 1, 1, 1, {1, 1, 0}, {1, 1, 1}}, 8, 64, 15},
+    {"MASK_LENGTH, panels", ASPENFLICK_MASK_LENGTH, {2, 2, 2, 2, 2, 1, 1, 1, {1, 1, 0}, {1, 1, 1}}, 16, 32, 15},
+    {"NO_RANK, panels", ASPENFLICK_NO_RANK, {2, 2, 2, 2, 5, 1, 1, 1, {1, 1, 0}, {1, 1, 1}}, 8, 80, 255},
+    {"RANK_BARRED, panels", ASPENFLICK_RANK_BARRED, {2, 2, 2, 2, 2, 1, 1, 1, {1, 1, 0}, {1, 1, 1}}, 8, 32, 15 - 2},
+    {"I11_RANGE, panels", ASPENFLICK_I11_RANGE, {2, 2, 2, 2, 2, 8, 1, 1, {1, 1, 0}, {1, 1, 1}}, 8, 32, 15},
+    {"I12_RANGE, panels", ASPENFLICK_I12_RANGE, {2, 2, 2, 2, 2, 1, 8, 1, {1, 1, 0}, {1, 1, 1}}, 8, 32, 15},
+    {"I13_RANGE, panels", ASPENFLICK_I13_RANGE, {2, 2, 2, 2, 2, 1, 1, 4, {1, 1, 0}, {1, 1, 1}}, 8, 32, 15},
+    {"I14_RANGE", ASPENFLICK_I14_RANGE, {2, 2, 2, 2, 2, 1, 1, 1, {1, 1, 1}, {1, 1, 2}}, 8, 32, 15},
+    {"I2_RANGE, panels", ASPENFLICK_I2_RANGE, {2, 2, 2, 2, 2, 1, 1, 1, {1, 1, 0}, {1, 1, 2}}, 8, 32, 15},
+    {"BEAM_BARRED, panels", ASPENFLICK_BEAM_BARRED, {2, 2, 2, 2, 2, 4, 1, 0, {1, 1, 0}, {1, 1, 1}}, 8, 32, 15},
+    {"NO_ROOM, panels", ASPENFLICK_NO_ROOM, {2, 2, 2, 2, 2, 1, 1, 1, {1, 1, 0}, {1, 1, 1}}, 8, 31, 15},
+};
+
 static void refusals(void) {
-    beams[4 * 8 / 8] &= (uint8_t)~2;  // bars (4,1): 4 rows of 8 bits, and 1
+    beams[4 * 8 / 8] &= (uint8_t)~2;  // bars (4,1): 4 rows of 8 bits, and 1, in both masks
     for (size_t k = 0; k < sizeof cases / sizeof cases[0]; k++) {
         aspenflick_report r = cases[k].report;
         size_t bytes = cases[k].bytes, room = cases[k].room;
         uint8_t ranks = cases[k].ranks;
         check(aspenflick_phases(r, beams, bytes, ranks, phases, room).refusal == cases[k].name, cases[k].what);
         check(aspenflick_weights(r, beams, bytes, ranks, weights, 2 * room).refusal == cases[k].name, cases[k].what);
+    }
+    for (size_t k = 0; k < sizeof panel_cases / sizeof panel_cases[0]; k++) {
+        aspenflick_panel_report r = panel_cases[k].report;
+        size_t bytes = panel_cases[k].bytes, room = panel_cases[k].room;
+        uint8_t ranks = panel_cases[k].ranks;
+        const uint32_t name = panel_cases[k].name;
+        check(aspenflick_panel_phases(r, beams, bytes, ranks, phases, room).refusal == name, panel_cases[k].what);
+        check(aspenflick_panel_weights(r, beams, bytes, ranks, weights, 2 * room).refusal == name, panel_cases[k].what);
     }
     beams[4 * 8 / 8] = 255;
 }

@@ -17,7 +17,7 @@ use Rattle.plan.specs.declared.Record.{Record}
 use Rattle.plan.specs.Plan.{matrix}
 use Rattle.plan.specs.Sound.{Sound}
 use Rattle.plan.specs.Answer.{refused, planned, recordOf, bufferOf, test, refusal, Called}
-use Rattle.plan.proofs.Calls.{rules-passed}
+use Rattle.plan.proofs.Accepted.{rules-passed}
 use Rattle.plan.proofs.Matrix.{length-matrix}
 use Rattle.settings.specs.Settings.{isSetting, maskBytes}
 use Rattle.settings.proofs.Known.{mask-few}
