@@ -53,7 +53,7 @@ ghost use Rattle.ground.specs.Cases.{_⇒_∣_};
 ghost use Rattle.settings.specs.Settings.{isSetting, maskBytes};
 ghost use Rattle.plan.specs.Answer.{PhasesLeft, WeightsLeft};
 ghost use Rattle.single.specs.Single.{single};
-ghost use Rattle.panels.specs.Panels.{panels};
+ghost use Rattle.multi.specs.Panels.{panels};
 ghost use Rattle.aspenflick.specs.Version.{version};
 
 // The version of the library. A struct, a parameter or a constant that changes makes the first number another, and every
@@ -168,7 +168,7 @@ pub extern "C" fn aspenflick_weights_1(
 // and the rest 0 gives 0 24 96 120 48 72 144 168.
 #[no_mangle]
 pub extern "C" fn aspenflick_panel_phases_1(
-    r: panels::PanelReport,
+    r: multi::PanelReport,
     beams: &[u8],
     ranks: u8,
     out: &mut [turn::Part],
@@ -182,7 +182,7 @@ pub extern "C" fn aspenflick_panel_phases_1(
 // as `aspenflick_weights` does.
 #[no_mangle]
 pub extern "C" fn aspenflick_panel_weights_1(
-    r: panels::PanelReport,
+    r: multi::PanelReport,
     beams: &[u8],
     ranks: u8,
     out: &mut [i16],

@@ -18,13 +18,13 @@ use Rattle.settings.proofs.Steps.{sized}
 use Rattle.masks.specs.declared.Needs.{Needs}
 use Rattle.masks.specs.Admitted.{bitsOf}
 use Rattle.masks.specs.Asks.{Asks}
-use Rattle.panels.specs.declared.PanelReport.{PanelReport}
-use Rattle.panels.specs.Panels.{isPanelSetting, panelPorts, B′, reached, rule, InRange, bitsRead, indices}
-use Rattle.panels.specs.Panels.{ownOrder, panels}
+use Rattle.multi.specs.declared.PanelReport.{PanelReport}
+use Rattle.multi.specs.Panels.{isPanelSetting, panelPorts, B′, reached, rule, InRange, bitsRead, indices}
+use Rattle.multi.specs.Panels.{ownOrder, panels}
 use Rattle.panels.specs.Drawing.{HasBeams}
-use Rattle.panels.proofs.Known.{known}
-use Rattle.panels.proofs.InRange.{set, zero-in-range, v-few}
-use Rattle.panels.proofs.Columns.{base-is}
+use Rattle.multi.proofs.Known.{known}
+use Rattle.multi.proofs.InRange.{set, zero-in-range, v-few}
+use Rattle.multi.proofs.Columns.{base-is}
 
 -- one bit for one layer, and two for more
 two-bits : (v w l l′ m m′ : ℕ)

@@ -10,12 +10,8 @@ use Rattle.ground.specs.Lists.{every}
 use Rattle.ground.proofs.Tests.{every-at, two-eq}
 use Rattle.turn.specs.Phase.{half, phase}
 use Rattle.plan.specs.Drawing.{placeOf, takes, marked, coAt, coRow}
-use Rattle.panels.specs.Panels.{φ, a, b, coPhases, B, B′, Column, W¹, W², beamOf, minus}
+use Rattle.multi.specs.Panels.{coPhases, B, B′, Column, W¹, W², beamOf, minus}
 use Rattle.panels.specs.Drawing.{place, codeOf}
-
--- a(p)·b(n) is p + n quarters of a turn
-pub ab-quarters : (p n : ℕ) → phase (a p + b n) ≡ phase (φ (p + n))
-ab-quarters p n = omega arith
 
 -- ---- the code of a column
 

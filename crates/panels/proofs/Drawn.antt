@@ -16,13 +16,13 @@ use Rattle.turn.proofs.Columns.{column-same}
 use Rattle.plan.specs.Plan.{layerAt, columnOf}
 use Rattle.plan.specs.Drawing.{coRow, beamAt, columnAt, Draws}
 use Rattle.plan.proofs.Drawn.{beam-drawn}
-use Rattle.panels.specs.declared.PanelReport.{PanelReport}
-use Rattle.panels.specs.Panels.{coefficients, coPhases, Name, B, B′, Column, beamOf, minus, byRank, reached, layerOf}
-use Rattle.panels.specs.Panels.{plan, InRange}
+use Rattle.multi.specs.declared.PanelReport.{PanelReport}
+use Rattle.multi.specs.Panels.{coefficients, coPhases, Name, B, B′, Column, beamOf, minus, byRank, reached, layerOf}
+use Rattle.multi.specs.Panels.{plan, InRange}
 use Rattle.panels.specs.Drawing.{place, codeOf, codesOf, quartersOf, inParts, stepOf, drawingOf}
-use Rattle.panels.proofs.InRange.{v-few, mode-two, four-panels}
-use Rattle.panels.proofs.Columns.{column, layer-is, within}
-use Rattle.panels.proofs.Sound.{plan-sound}
+use Rattle.multi.proofs.InRange.{v-few, mode-two, four-panels}
+use Rattle.multi.proofs.Columns.{column, layer-is, within}
+use Rattle.multi.proofs.Sound.{plan-sound}
 use Rattle.panels.proofs.Codes.{code-place, panel, two-panels, all-panels}
 
 co-drawn : (r : PanelReport) → InRange r → (c : Column)

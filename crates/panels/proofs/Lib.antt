@@ -1,13 +1,5 @@
--- Laws of the multi-panel codebook.
-pub mod Known
-pub mod InRange
-pub mod Rows
-pub mod Columns
-pub mod Sound
-pub mod Lawful
+-- What a report hands over to the masks and to the writer, and why that is its own.
 pub mod Asked
 pub mod Codes
 pub mod Drawn
 pub mod Unique
-pub mod Demands
-pub mod Worked

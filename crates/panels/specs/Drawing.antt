@@ -10,8 +10,8 @@ use Rattle.settings.specs.declared.Beam.{Beam}
 use Rattle.settings.specs.Settings.{across, down}
 use Rattle.plan.specs.declared.Drawing.{Drawing}
 use Rattle.masks.specs.declared.Needs.{Needs}
-use Rattle.panels.specs.declared.PanelReport.{PanelReport}
-use Rattle.panels.specs.Panels.{Name, B, B′, Column, W¹, W², byRank, reached}
+use Rattle.multi.specs.declared.PanelReport.{PanelReport}
+use Rattle.multi.specs.Panels.{Name, B, B′, Column, W¹, W², byRank, reached}
 
 -- the code of a column: 512 times the place of its beam, 256 for the co-phases, and where it is W² a bit for every second
 -- block of up to eight

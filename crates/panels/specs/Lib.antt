@@ -1,3 +1,2 @@
--- The multi-panel codebook of 5.2.2.2.2, and what the writer is handed of a report.
-pub mod Panels
+-- What the writer is handed of a multi-panel report.
 pub mod Drawing

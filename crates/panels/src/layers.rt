@@ -1,9 +1,8 @@
 // The beams and co-phases of a report: what it asks of the masks, and what is to be written of it.
-use crate::PanelReport;
-use crate::rules;
 use masks::Needs;
+use multi::Own;
+use multi::PanelReport;
 use plan::Drawing;
-use settings::Beam;
 use settings::Sizes;
 use turn::Part;
 use turn::Phase;
@@ -15,7 +14,8 @@ ghost use Rattle.ground.specs.Cases.{_⇒_∣_};
 ghost use Rattle.turn.specs.Phase.{turn, quarter, phase};
 ghost use Rattle.settings.specs.Settings.{sizesOf};
 ghost use Rattle.masks.specs.Asks.{Asks};
-ghost use Rattle.panels.specs.Panels.{B′, kOf, reached, InRange, indices, panels};
+ghost use Rattle.multi.specs.Panels.{InRange, indices, panels};
+ghost use Rattle.multi.specs.Own.{ownOf};
 ghost use Rattle.panels.specs.Drawing.{HasBeams, codesOf, quartersOf, inParts, drawingOf};
 
 // The codes of two layers, and of four: 512 for B', 256 for the co-phases, and 170 where half a turn is added to the second
@@ -31,35 +31,6 @@ fn codes_of(v: u32) -> [u16; 8]
     if v == 2 { TWO } else { FOUR }
 }
 
-// The row of k for i13 from two layers on. Those of v = 3 and 4 stand after (0,0).
-fn k_of(r: PanelReport) -> Beam
-    requires { ⌜ InRange r × (r .v ≡ 1 → ⊥) ⌝ }
-    ensures { λ k. ⌜ k ≡ kOf r ⌝ }
-{
-    if r.v == 2 {
-        if r.n1 == r.n2 {
-            return settings::k_at(r.n2, r.i13, 4);
-        }
-        return settings::k_at(r.n2, r.i13, 3);
-    }
-    settings::k_at(r.n2, r.i13 + 1, 4)
-}
-
-// B', reduced; one layer has B alone. For N2 = 1 there is one m, whatever O2.
-fn second_beam(r: PanelReport, s: Sizes) -> Beam
-    requires { ⌜ InRange r × (s ≡ sizesOf (r .n1) (r .n2)) ⌝ }
-    ensures { λ x. ⌜ x ≡ reached r B′ ⌝ }
-{
-    if r.v == 1 {
-        return Beam { l: r.i11, m: r.i12 };
-    }
-    let k = k_of(r);
-    Beam {
-        l: (r.i11 + 4 * k.l) % s.across,
-        m: (r.i12 + 4 * k.m) % s.down,
-    }
-}
-
 // How many beams v layers have.
 fn beams_of(v: u32) -> u32
     ensures { λ n. ⌜ n ≡ (eqb v 1 ⇒ 1 ∣ 2) ⌝ }
@@ -68,14 +39,14 @@ fn beams_of(v: u32) -> u32
 }
 
 // What the report asks of the masks and the buffer; where it is in range, with B and B'.
-pub fn needs_of(r: PanelReport, s: Sizes) -> Needs
-    requires { ⌜ s ≡ sizesOf (r .n1) (r .n2) ⌝ }
+pub fn needs_of(r: PanelReport, o: Own) -> Needs
+    requires { ⌜ o ≡ ownOf r ⌝ }
     ensures { λ x. ⌜ Asks panels r indices x × (x .refusal ≡ 0 → HasBeams r x) × (x .count ≤ 2) ⌝ }
 {
-    let k = rules::refusal(r, s);
-    if k != 0 {
+    let s = o.sizes;
+    if o.refusal != 0 {
         return Needs {
-            refusal: k,
+            refusal: o.refusal,
             bytes: s.bytes,
             v: r.v,
             entries: 0,
@@ -85,7 +56,6 @@ pub fn needs_of(r: PanelReport, s: Sizes) -> Needs
             m: [0; 4],
         };
     }
-    let other = second_beam(r, s);
     let count = beams_of(r.v);
     let ports = r.ng * s.ports;
     let entries = r.v * ports;
@@ -96,8 +66,8 @@ pub fn needs_of(r: PanelReport, s: Sizes) -> Needs
         entries: entries,
         count: count,
         width: s.down,
-        l: [r.i11, other.l, 0, 0],
-        m: [r.i12, other.m, 0, 0],
+        l: [r.i11, o.other.l, 0, 0],
+        m: [r.i12, o.other.m, 0, 0],
     }
 }
 

@@ -1,46 +1,31 @@
 // The precoder of a multi-panel report, written into a lent buffer.
+use multi::PanelReport;
 use plan::Judged;
 use plan::Record;
 use turn::Part;
 ghost use mathlib.Core.Path.{_≡_};
 ghost use Rattle.plan.specs.Answer.{planned, asked, refusal, judgedBy, PhasesLeft, WeightsLeft};
-ghost use Rattle.panels.specs.Panels.{plan, panels};
+ghost use Rattle.multi.specs.Panels.{plan, panels};
 ghost use Rattle.panels.specs.Drawing.{drawingOf};
 
 mod layers;
-mod rules;
-
-// A report: the setting (Ng,N1,N2), the codebook mode, the rank v, and the indices. Unused numbers of i14 and i2 are 0.
-#[repr(C)]
-pub struct PanelReport {
-    pub ng: u32,
-    pub n1: u32,
-    pub n2: u32,
-    pub mode: u32,
-    pub v: u32,
-    pub i11: u32,
-    pub i12: u32,
-    pub i13: u32,
-    pub i14: [u32; 3],
-    pub i2: [u32; 3],
-}
 
 // Judges a report by the refusals 1 to 12: the first that applies is given, and otherwise what is to be written. `room` is
 // the number of entries for which the lent buffer has room.
 fn judge(r: PanelReport, mask: &[u8], ranks: u8, room: usize) -> Judged
     ensures { λ c. ⌜ c ≡ judgedBy (planned (plan r)) (drawingOf r) (refusal panels (asked r (now (mask .entry)) ranks room)) ⌝ }
 {
-    let s = settings::sizes_of(r.n1, r.n2);
-    let x = layers::needs_of(r, s);
+    let o = multi::own_of(r);
+    let x = layers::needs_of(r, o);
     let k = masks::admit_two(x, mask, ranks, room);
     if k != 0 {
         return plan::refuse(k);
     }
-    let drawing = layers::drawing_of(r, s, x);
+    let drawing = layers::drawing_of(r, o.sizes, x);
     Judged {
         given: Record {
             refusal: 0,
-            ports: r.ng * s.ports,
+            ports: r.ng * o.sizes.ports,
             layers: r.v,
             scale: x.entries,
         },

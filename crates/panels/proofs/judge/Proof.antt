@@ -8,15 +8,17 @@ use borrow.Author.Tests.{ltb-true}
 use Rattle.ground.proofs.Booleans.{either}
 use borrow.Author.Needs.{needs}
 use denote.Ref.{now}
+use Rattle.settings.specs.Settings.{sizesOf}
 use Rattle.plan.specs.Answer.{asked, refusal}
 use Rattle.plan.proofs.Answers.{refused-judged}
 use Rattle.plan.proofs.Accepted.{accepted-in-range}
 use Rattle.masks.specs.declared.Needs.{Needs}
 use Rattle.masks.specs.Admitted.{admitted, upToTwo}
 use Rattle.masks.proofs.Refused.{admitted-refusal}
-use Rattle.panels.specs.Panels.{InRange, indices, panels}
-use Rattle.panels.proofs.InRange.{in-range-zero}
-use Rattle.panels.proofs.Lawful.{panels-lawful}
+use Rattle.multi.specs.Panels.{InRange, indices, panels}
+use Rattle.multi.proofs.InRange.{in-range-zero}
+use Rattle.multi.proofs.Said.{own-sizes}
+use Rattle.multi.proofs.Lawful.{panels-lawful}
 use Rattle.panels.proofs.Asked.{ports-are, ports-few}
 use Rattle.panels.proofs.judge.Statement.{statement}
 use Rattle.panels.proofs.judge.Tie as tie
@@ -61,6 +63,10 @@ module _ (c : tie.Else1) where
   own-zero : c .before .before .needs-of .result .refusal ≡ 0
   own-zero = c .before .before .needs-of .ensures .0 .refusal-is ∙ in-range-zero _ in-range
 
+-- the sizes of one panel
+sizes : (c : tie.After-own-of) → let r = c .before .before .args .r in c .own-of .result .sizes ≡ sizesOf (r .n1) (r .n2)
+sizes c = own-sizes _ (c .own-of .ensures)
+
 returns : tie.Need-returns
 returns c =
     let k = c .before .before in
@@ -69,18 +75,18 @@ returns c =
 drawing-of-requires : tie.Need-drawing-of-requires
 drawing-of-requires c κs =
     let needs = c .before .before in
-    (in-range c, needs .before .sizes-of .ensures, needs .needs-of .ensures .1 (own-zero c))
+    (in-range c, sizes (needs .before), needs .needs-of .ensures .1 (own-zero c))
 
 mul-t10 : tie.Need-mul-t10
 mul-t10 c =
     let e = c .before .before .before in
-    omega (arith, ports-few _ (e .before .before .before .sizes-of .ensures) (in-range e))
+    omega (arith, ports-few _ (sizes (e .before .before .before)) (in-range e))
 
 returns-2 : tie.Need-returns-2
 returns-2 c =
     let e = c .before .before .before in
     let needs = e .before .before in
-    let ports = ports-are _ (needs .before .sizes-of .ensures) (in-range e) in
+    let ports = ports-are _ (sizes (needs .before)) (in-range e) in
     let entries = needs .needs-of .ensures .0 .entries-are (own-zero e) in
     rw (sym (number (e .before)) ∙ e .if1 .left)
     (λ i. record {

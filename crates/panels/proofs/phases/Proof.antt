@@ -2,9 +2,9 @@
 use mathlib.Core.Path.{refl}
 use borrow.Author.Needs.{needs}
 use Rattle.render.proofs.Judged as judged
-use Rattle.panels.specs.Panels.{panels}
+use Rattle.multi.specs.Panels.{panels}
 use Rattle.panels.specs.Drawing.{drawingOf}
-use Rattle.panels.proofs.Lawful.{panels-lawful}
+use Rattle.multi.proofs.Lawful.{panels-lawful}
 use Rattle.panels.proofs.Drawn.{drawing-draws}
 use Rattle.panels.proofs.phases.Statement.{statement}
 use Rattle.panels.proofs.phases.Tie as tie

@@ -4,11 +4,11 @@ use native.Mathlib.Nat.{mul-le-mul}
 use borrow.Author.Needs.{needs}
 use Rattle.render.proofs.Planned.{Coarse}
 use Rattle.render.proofs.Judged as judged
-use Rattle.panels.specs.declared.PanelReport.{PanelReport}
-use Rattle.panels.specs.Panels.{plan, InRange, panels}
+use Rattle.multi.specs.declared.PanelReport.{PanelReport}
+use Rattle.multi.specs.Panels.{plan, InRange, panels}
 use Rattle.panels.specs.Drawing.{drawingOf}
-use Rattle.panels.proofs.InRange.{set, v-few}
-use Rattle.panels.proofs.Lawful.{panels-lawful}
+use Rattle.multi.proofs.InRange.{set, v-few}
+use Rattle.multi.proofs.Lawful.{panels-lawful}
 use Rattle.panels.proofs.Drawn.{drawing-draws}
 use Rattle.panels.proofs.weights.Statement.{statement}
 use Rattle.panels.proofs.weights.Tie as tie

@@ -3,7 +3,7 @@ use native.Mathlib.Omega.{arith}
 use borrow.Author.Needs.{needs}
 use borrow.Author.Tests.{eq-eqb, ne-eqb}
 use Rattle.panels.specs.Drawing.{quartersOf}
-use Rattle.panels.proofs.InRange.{i14-small, i2-small}
+use Rattle.multi.proofs.InRange.{i14-small, i2-small}
 use Rattle.panels.proofs.layers.co_of.Statement.{statement}
 use Rattle.panels.proofs.layers.co_of.Tie as tie
 

@@ -1,6 +1,6 @@
 -- `layers::codes_of` meets its contract: both rows are those of their columns, by computation.
 use borrow.Author.Tests.{eq-eqb, ne-eqb}
-use Rattle.panels.specs.Panels.{byRank}
+use Rattle.multi.specs.Panels.{byRank}
 use Rattle.panels.specs.Drawing.{codesOf}
 use Rattle.panels.proofs.layers.codes_of.Statement.{statement}
 use Rattle.panels.proofs.layers.codes_of.Tie as tie

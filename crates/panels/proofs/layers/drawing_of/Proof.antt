@@ -7,10 +7,10 @@ use lib.ListN.{getD}
 use borrow.Author.Needs.{needs}
 use Rattle.settings.proofs.Known as one
 use Rattle.settings.proofs.Steps.{Sized, sized}
-use Rattle.panels.specs.Panels.{Name, B, B′, reached}
+use Rattle.multi.specs.Panels.{Name, B, B′, reached}
 use Rattle.panels.specs.Drawing.{drawingOf}
-use Rattle.panels.proofs.InRange.{set}
-use Rattle.panels.proofs.Columns.{within}
+use Rattle.multi.proofs.InRange.{set}
+use Rattle.multi.proofs.Columns.{within}
 use Rattle.panels.proofs.layers.drawing_of.Statement.{statement}
 use Rattle.panels.proofs.layers.drawing_of.Tie as tie
 
