@@ -30,9 +30,9 @@
 //     (a) 2 at (2,1)   (b) 1 if n2 = 1   (c) 1 at (2,1), 3 at (4,1) and (2,2), 4 at (6,1) and (3,2)   (d) 8 at (4,1)
 //     (e) 4 at (3,2), (4,2), (6,2) and (8,2)
 //
-// Several panels: the settings (ng,n1,n2) are (2,2,1), (2,4,1), (4,2,1), (2,2,2), (2,8,1), (4,4,1), (2,4,2) and (4,2,2). P is
-// 2*ng*n1*n2; n1, n2 and M are those of one panel. There are one to four layers, and mode 2 is for two panels only. Three
-// numbers of i14 and of i2 are always given, and again one without use must be 0. How many values each has:
+// Several panels: the settings (ng,n1,n2) are (2,2,1), (2,4,1), (4,2,1), (2,2,2), (2,8,1), (4,4,1), (2,4,2) and (4,2,2).
+// P is 2*ng*n1*n2; n1, n2 and M are those of one panel. There are one to four layers, and mode 2 is for two panels only.
+// Three numbers of i14 and of i2 are always given, and again one without use must be 0. How many values each has:
 //
 //                 i11     i12     i13       i2 in mode 1    i2 in mode 2
 //     v = 1       4*n1    M       1         4 1 1           4 2 2
@@ -43,10 +43,11 @@
 //     i14: 4 1 1 with two panels in mode 1, 4 4 1 with two panels in mode 2, 4 4 4 with four panels
 //
 // Bit k of a mask is bit k mod 8, from the lowest, of byte k / 8. A zero bit bars. `ranks` has bit v-1 for v layers.
-// `beams` has 4*n1*M bits, bit l*M + m for the beam (l,m), l modulo 4*n1 and m modulo M. Two ports have one byte: bits 0
-// to 3 for i2 with one layer, bits 4 and 5 for i2 with two. Panels have the masks of one panel, and from two layers on
-// two beams. Three and four layers of one panel with 16 ports or more have half-length beams, for which one bit is read, that of (2*i11, i12). The standard ties such a beam to two bits more, those of
-// (2*i11 - 1, i12) and (2*i11 + 1, i12), which are not read: a report is not refused where these alone would bar it.
+// `beams` has 4*n1*M bits, bit l*M + m for the beam (l,m), l modulo 4*n1 and m modulo M; for several panels it is the mask
+// of one of them. Two ports have one byte: bits 0 to 3 for i2 with one layer, bits 4 and 5 for i2 with two. Three and four
+// layers of one panel with 16 ports or more have half-length beams, for which one bit is read, that of (2*i11, i12). The
+// standard ties such a beam to two bits more, those of (2*i11 - 1, i12) and (2*i11 + 1, i12), which are not read: a report
+// is not refused where these alone would bar it. Several panels have no half-length beams.
 //
 // Made from the proved crates by tools/header; not edited by hand.
 #ifndef ASPENFLICK_H

@@ -22,16 +22,16 @@ pub struct PanelReport {
     pub i2: [u32; 3],
 }
 
-// What a report's own numbers say: the first of 1, 2, 4, 6 to 8, 12 and 9 that applies, and else 0; what one panel has, zeros
-// where (N1,N2) is no panel's; and where it is 0, B', reduced.
+// What a report's own numbers say: the first of 1, 2, 4, 6 to 8, 12 and 9 that applies, and else 0; what one panel has,
+// zeros where (N1,N2) is no panel's; and where it is 0, B', reduced.
 pub struct Own {
     pub refusal: u32,
     pub sizes: Sizes,
     pub other: Beam,
 }
 
-// Judges a report by its own numbers. (2,2,1) with mode 1, two layers, i11 = 7, i13 = 1 and the rest 0 has panels of 4 ports
-// and the beam (3,0) beside (7,0).
+// Judges a report by its own numbers. (2,2,1) with mode 1, two layers, i11 = 7, i13 = 1 and the rest 0 has panels of 4
+// ports and the beam (3,0) beside (7,0).
 pub fn own_of(r: PanelReport) -> Own
     ensures { λ o. ⌜ o ≡ ownOf r ⌝ }
 {

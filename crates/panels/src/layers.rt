@@ -110,13 +110,16 @@ fn co_of(r: PanelReport) -> [Part; 8]
 {
     let p = r.i14;
     let n = r.i2;
+    let f = n[0];
+    let p1 = p[0];
+    let p2 = p[1];
     if r.mode == 2 {
-        return two_panels(n[0], p[0] + n[1], p[1] + n[2]);
+        return two_panels(f, p1 + n[1], p2 + n[2]);
     }
     if r.ng == 2 {
-        return two_panels(n[0], p[0], n[0] + p[0]);
+        return two_panels(f, p1, f + p1);
     }
-    four_panels(n[0], p[0], p[1], p[2])
+    four_panels(f, p1, p2, p[2])
 }
 
 // The steps of the beam (l,m), x + 256·y.

@@ -45,22 +45,15 @@ co-of-spec =
     (λ c. search needs)
     (λ c. search needs)
     (λ c. search needs)
-    add-two-panels
     (λ c. search needs)
+    add-two-panels
     (λ c. search needs)
     add-two-panels-2
     (λ c κs. search needs)
     returns
-    (λ c. search needs)
-    (λ c. search needs)
-    (λ c. search needs)
-    (λ c. search needs)
     add-two-panels-3
     (λ c κs. search needs)
     returns-2
-    (λ c. search needs)
-    (λ c. search needs)
-    (λ c. search needs)
     (λ c. search needs)
     four-panels-requires
     returns-3)
