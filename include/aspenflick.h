@@ -107,7 +107,8 @@ typedef struct { uint32_t n1, n2, mode, v, i11, i12, i13, i2; } aspenflick_repor
 // precoder is the entries divided by the square root of the scale.
 typedef struct { uint32_t refusal, ports, layers, scale; } aspenflick_record;
 
-// A report: the setting (Ng,N1,N2), the codebook mode, the rank v, and the indices. Unused numbers of i14 and i2 are 0.
+// A report of several panels: the setting (Ng,N1,N2), the codebook mode, the rank v, and the indices. Numbers of i14 and i2
+// that are not used are 0.
 typedef struct { uint32_t ng, n1, n2, mode, v, i11, i12, i13, i14[3], i2[3]; } aspenflick_panel_report;
 
 // The version of the library that is linked: 10000*major + 100*minor + patch, as in ASPENFLICK_VERSION.

@@ -3,8 +3,9 @@
 //
 //     random COUNT SEED
 //
-// COUNT is the number of requests for each function, SEED where the generator starts. For each check the first request
-// that fails it is printed. The last line is `N passed, M failed`; the exit status is 0 only if M is 0.
+// COUNT is the number of requests for each function of the single panel, half of it that for each of several panels, and
+// SEED where the generator starts. For each check the first request that fails it is printed. The last line is
+// `N passed, M failed`; the exit status is 0 only if M is 0.
 // Freestanding: of the C library only printf, memcpy and memcmp.
 #include <stdio.h>
 #include "../../reference/baseline.h"
@@ -353,11 +354,14 @@ static void ask(int function, uint64_t number, int fault) {
 
 static int first_function(int fault) { return fault < OTHER_PANEL_ORDER ? PHASES : PANEL_PHASES; }
 
+// Of several panels, whose calls take longer, half as many.
+static uint64_t requests(int function, uint64_t count) { return function < PANEL_PHASES ? count : count / 2; }
+
 static void run(uint64_t count, int fault) {
     for (int function = first_function(fault); function < FUNCTIONS; function++) {
         for (int k = 0; k <= REFUSALS; k++) outcomes[function][k] = 0;
         for (int k = 0; k < CHECKS; k++) failures[function][k] = 0;
-        for (uint64_t number = 0; number < count; number++) ask(function, number, fault);
+        for (uint64_t number = 0; number < requests(function, count); number++) ask(function, number, fault);
     }
 }
 
@@ -385,16 +389,15 @@ int main(int arguments, char **argument) {
     state = decimal(argument[2]);
     run(count, NONE);
     for (int function = 0; function < FUNCTIONS; function++) {
-        unsigned long long *times = outcomes[function], *broken = failures[function];
+        unsigned long long *times = outcomes[function], *broken = failures[function], asked = requests(function, count);
         const char *name = functions[function].name;
-        printf("%s: %llu requests, accepted %llu%s, by refusal", name, (unsigned long long)count, times[0],
-               test(times[0] * RAREST > count));
+        printf("%s: %llu requests, accepted %llu%s, by refusal", name, asked, times[0], test(times[0] * RAREST > asked));
         for (uint32_t k = 1; k <= functions[function].refusals; k++) {
-            printf("%s %u: %llu%s", k > 1 ? "," : "", k, times[k], test(times[k] * RAREST > count));
+            printf("%s %u: %llu%s", k > 1 ? "," : "", k, times[k], test(times[k] * RAREST > asked));
         }
         printf("\n");
         for (int k = 0; k < CHECKS; k++) {
-            printf("%s: %s: all but %llu%s\n", name, check_names[k], broken[k], test(count && !broken[k]));
+            printf("%s: %s: all but %llu%s\n", name, check_names[k], broken[k], test(asked && !broken[k]));
         }
     }
     for (int fault = NONE + 1; fault < FAULTS; fault++) {

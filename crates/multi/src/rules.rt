@@ -11,6 +11,16 @@ ghost use Rattle.settings.specs.Settings.{sizesOf};
 ghost use Rattle.multi.specs.Panels.{isPanelSetting, modeFits, i14Values, i2Values, outside, rule};
 ghost use Rattle.multi.specs.Panels.{ownOrder};
 
+// Two panels or four.
+fn is_two_or_four(ng: u32) -> bool
+    ensures { λ t. ⌜ t ≡ (eqb ng 2 || eqb ng 4) ⌝ }
+{
+    if ng == 2 {
+        return true;
+    }
+    ng == 4
+}
+
 // Whether Ng panels of so many ports each are a setting. Four panels of 16 would have more than 32.
 fn is_setting(ng: u32, ports: u32) -> bool
     ensures { λ t. ⌜ t ≡ (eqb ports 16 ⇒ eqb ng 2 ∣ eqb ports 8 || eqb ports 4 ⇒ eqb ng 2 || eqb ng 4 ∣ false) ⌝ }
@@ -19,9 +29,12 @@ fn is_setting(ng: u32, ports: u32) -> bool
         return ng == 2;
     }
     if ports == 8 {
-        return ng == 2 || ng == 4;
+        return is_two_or_four(ng);
     }
-    ports == 4 && (ng == 2 || ng == 4)
+    if ports == 4 {
+        return is_two_or_four(ng);
+    }
+    false
 }
 
 // Mode 1, or mode 2 with two panels.
