@@ -5,6 +5,7 @@ pub mod Rows
 pub mod Columns
 pub mod Sound
 pub mod Lawful
+pub mod Said
 pub mod Unique
 pub mod Demands
 pub mod Worked

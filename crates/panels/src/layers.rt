@@ -3,7 +3,6 @@ use masks::Needs;
 use multi::Own;
 use multi::PanelReport;
 use plan::Drawing;
-use settings::Beam;
 use settings::Sizes;
 use turn::Part;
 use turn::Phase;
@@ -15,7 +14,7 @@ ghost use Rattle.ground.specs.Cases.{_⇒_∣_};
 ghost use Rattle.turn.specs.Phase.{turn, quarter, phase};
 ghost use Rattle.settings.specs.Settings.{sizesOf};
 ghost use Rattle.masks.specs.Asks.{Asks};
-ghost use Rattle.multi.specs.Panels.{B′, kOf, reached, InRange, indices, panels};
+ghost use Rattle.multi.specs.Panels.{InRange, indices, panels};
 ghost use Rattle.multi.specs.Own.{ownOf};
 ghost use Rattle.panels.specs.Drawing.{HasBeams, codesOf, quartersOf, inParts, drawingOf};
 
@@ -30,35 +29,6 @@ fn codes_of(v: u32) -> [u16; 8]
     ensures { λ c. ⌜ c ≡ codesOf v ⌝ }
 {
     if v == 2 { TWO } else { FOUR }
-}
-
-// The row of k for i13 from two layers on. Those of v = 3 and 4 stand after (0,0).
-fn k_of(r: PanelReport) -> Beam
-    requires { ⌜ InRange r × (r .v ≡ 1 → ⊥) ⌝ }
-    ensures { λ k. ⌜ k ≡ kOf r ⌝ }
-{
-    if r.v == 2 {
-        if r.n1 == r.n2 {
-            return settings::k_at(r.n2, r.i13, 4);
-        }
-        return settings::k_at(r.n2, r.i13, 3);
-    }
-    settings::k_at(r.n2, r.i13 + 1, 4)
-}
-
-// B', reduced; one layer has B alone. For N2 = 1 there is one m, whatever O2.
-fn second_beam(r: PanelReport, s: Sizes) -> Beam
-    requires { ⌜ InRange r × (s ≡ sizesOf (r .n1) (r .n2)) ⌝ }
-    ensures { λ x. ⌜ x ≡ reached r B′ ⌝ }
-{
-    if r.v == 1 {
-        return Beam { l: r.i11, m: r.i12 };
-    }
-    let k = k_of(r);
-    Beam {
-        l: (r.i11 + 4 * k.l) % s.across,
-        m: (r.i12 + 4 * k.m) % s.down,
-    }
 }
 
 // How many beams v layers have.
@@ -86,7 +56,6 @@ pub fn needs_of(r: PanelReport, o: Own) -> Needs
             m: [0; 4],
         };
     }
-    let other = second_beam(r, s);
     let count = count_of(r.v);
     let ports = r.ng * s.ports;
     let entries = r.v * ports;
@@ -97,8 +66,8 @@ pub fn needs_of(r: PanelReport, o: Own) -> Needs
         entries: entries,
         count: count,
         width: s.down,
-        l: [r.i11, other.l, 0, 0],
-        m: [r.i12, other.m, 0, 0],
+        l: [r.i11, o.other.l, 0, 0],
+        m: [r.i12, o.other.m, 0, 0],
     }
 }
 

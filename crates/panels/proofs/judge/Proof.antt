@@ -9,7 +9,6 @@ use Rattle.ground.proofs.Booleans.{either}
 use borrow.Author.Needs.{needs}
 use denote.Ref.{now}
 use Rattle.settings.specs.Settings.{sizesOf}
-use Rattle.multi.specs.declared.Own.{Own}
 use Rattle.plan.specs.Answer.{asked, refusal}
 use Rattle.plan.proofs.Answers.{refused-judged}
 use Rattle.plan.proofs.Accepted.{accepted-in-range}
@@ -18,6 +17,7 @@ use Rattle.masks.specs.Admitted.{admitted, upToTwo}
 use Rattle.masks.proofs.Refused.{admitted-refusal}
 use Rattle.multi.specs.Panels.{InRange, indices, panels}
 use Rattle.multi.proofs.InRange.{in-range-zero}
+use Rattle.multi.proofs.Said.{own-sizes}
 use Rattle.multi.proofs.Lawful.{panels-lawful}
 use Rattle.panels.proofs.Asked.{ports-are, ports-few}
 use Rattle.panels.proofs.judge.Statement.{statement}
@@ -65,7 +65,7 @@ module _ (c : tie.Else1) where
 
 -- the sizes of one panel
 sizes : (c : tie.After-own-of) → let r = c .before .before .args .r in c .own-of .result .sizes ≡ sizesOf (r .n1) (r .n2)
-sizes c = ap (λ (o : Own). o .sizes) (c .own-of .ensures)
+sizes c = own-sizes _ (c .own-of .ensures)
 
 returns : tie.Need-returns
 returns c =

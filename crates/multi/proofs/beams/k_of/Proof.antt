@@ -1,10 +1,10 @@
--- `layers::k_of` meets its contract: by its tests the row is that of the definition.
+-- `beams::k_of` meets its contract: by its tests the row is that of the definition.
 use native.Mathlib.Omega.{arith}
 use borrow.Author.Needs.{needs}
 use borrow.Author.Tests.{eq-eqb, ne-eqb}
 use Rattle.multi.proofs.Rows.{Row, rowAt, row-right}
-use Rattle.panels.proofs.layers.k_of.Statement.{statement}
-use Rattle.panels.proofs.layers.k_of.Tie as tie
+use Rattle.multi.proofs.beams.k_of.Statement.{statement}
+use Rattle.multi.proofs.beams.k_of.Tie as tie
 
 right : (s : tie.Start) → Row (s .args .r)
 right s = row-right (s .args .r) (s .pre .0)

@@ -1,4 +1,4 @@
--- `layers::second_beam` meets its contract: steps of 4 are steps of (O1,O2), and no number is large.
+-- `beams::second_beam` meets its contract: steps of 4 are steps of (O1,O2), and no number is large.
 use mathlib.Core.Path.{_≡_, sym, ap, ap₂, _∙_}
 use Prim.Native.Nat.{ℕ, _+_, _*_, _%_, _<_, _≤_}
 use native.Mathlib.Omega.{arith}
@@ -8,13 +8,13 @@ use Rattle.settings.specs.Settings.{o1, o2, across, down}
 use Rattle.settings.specs.Ranges.{beam}
 use Rattle.settings.proofs.Known as one
 use Rattle.settings.proofs.Steps.{Sized, sized, step-across, step-down}
 use Rattle.multi.specs.declared.PanelReport.{PanelReport}
 use Rattle.multi.specs.Panels.{B, B′, kOf, reached, InRange}
 use Rattle.multi.proofs.InRange.{set}
 use Rattle.multi.proofs.Columns.{base-is}
 use Rattle.multi.proofs.Rows.{Row, rowAt, row-right}
-use Rattle.panels.proofs.layers.second_beam.Statement.{statement}
-use Rattle.panels.proofs.layers.second_beam.Tie as tie
+use Rattle.multi.proofs.beams.second_beam.Statement.{statement}
+use Rattle.multi.proofs.beams.second_beam.Tie as tie
 
 module _ (s : tie.Start) where
   panel : one.Known (s .args .r .n1) (s .args .r .n2)

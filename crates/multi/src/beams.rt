@@ -1,0 +1,36 @@
+// The second beam of a report.
+use crate::PanelReport;
+use settings::Beam;
+use settings::Sizes;
+ghost use mathlib.Core.Path.{_≡_};
+ghost use Rattle.settings.specs.Settings.{sizesOf};
+ghost use Rattle.multi.specs.Panels.{B′, kOf, reached, InRange};
+
+// The row of k for i13 from two layers on. Those of v = 3 and 4 stand after (0,0).
+fn k_of(r: PanelReport) -> Beam
+    requires { ⌜ InRange r × (r .v ≡ 1 → ⊥) ⌝ }
+    ensures { λ k. ⌜ k ≡ kOf r ⌝ }
+{
+    if r.v == 2 {
+        if r.n1 == r.n2 {
+            return settings::k_at(r.n2, r.i13, 4);
+        }
+        return settings::k_at(r.n2, r.i13, 3);
+    }
+    settings::k_at(r.n2, r.i13 + 1, 4)
+}
+
+// B', reduced; one layer has B alone. For N2 = 1 there is one m, whatever O2.
+pub fn second_beam(r: PanelReport, s: Sizes) -> Beam
+    requires { ⌜ InRange r × (s ≡ sizesOf (r .n1) (r .n2)) ⌝ }
+    ensures { λ x. ⌜ x ≡ reached r B′ ⌝ }
+{
+    if r.v == 1 {
+        return Beam { l: r.i11, m: r.i12 };
+    }
+    let k = k_of(r);
+    Beam {
+        l: (r.i11 + 4 * k.l) % s.across,
+        m: (r.i12 + 4 * k.m) % s.down,
+    }
+}
