@@ -105,7 +105,9 @@ uint32_t judge(const Report &r, const uint8_t *mask, size_t maskLength, uint8_t 
     } else {
         uint32_t n;
         for (const Beam &b : beamsOf(r, n)) {
-            if (!bit(mask, down * (halfLength(r) ? 2 * b.l : b.l) + b.m)) return 10;
+            uint32_t k = down * (halfLength(r) ? 2 * b.l : b.l) + b.m, all = across * down;
+            if (!bit(mask, k)) return 10;
+            if (halfLength(r) && !(bit(mask, (k + all - down) % all) && bit(mask, k + down))) return 10;
         }
     }
     if (room < r.v * ports(r)) return 11;

@@ -175,6 +175,11 @@ static uint32_t judge(const aspenflick_report *r, const uint8_t *mask, size_t ma
         if (!mask_bit(mask, bit)) return 10;
         p->beams[i] = b;
     }
+    if (half_length) {
+        // The beams of the rows before and after; before row 0 stands the last.
+        unsigned before = l ? l - 1 : across - 1;
+        if (!mask_bit(mask, down * before + m) || !mask_bit(mask, down * (l + 1) + m)) return 10;
+    }
     if (room < v * ports) return 11;
 
     p->ports = ports;

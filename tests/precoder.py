@@ -28,7 +28,8 @@ From 003:
   - the matrices: W of two ports (Table -1) and of 1 to 6 and 8 layers (Tables -5 to -10 and -12; m'''' in the last of
     8 columns is read as m'''); l and m of 1 to 6 layers in both modes, but for what stands below;
   - the mask bits: how many, and which of them bars which precoder, for two ports and for more. A bit stands for the
-    quantity v_{l,m}, so a beam has the bit of the v_{l,m} with the same entries: this is what reduces l and m;
+    quantity v_{l,m}, so a beam has the bit of the v_{l,m} with the same entries: this is what reduces l and m. A
+    v~_{l,m} is associated with three bits, the first modulo all bits, and barred if one or more of them is zero;
   - bit v-1 of the rank mask, r_{v-1}, for four ports and more.
 From 000 and 002:
   - l and m of 7 and 8 layers: for N2 > 1 as 002 prints them (003 has an i12 too many, 000 one too few), for N2 = 1 as
@@ -52,8 +53,7 @@ From 01, where 003 differs from it:
   - l' of 2 layers in mode 1: Table -6 prints i12 + k1. l' and m' of 4 layers, P < 16: Table -8 prints "i12, k1" and
     "i12, k2". They are i11 + k1 and i12 + k2;
   - l' and m' of 2 layers in mode 2: for N2 > 1 Table -6 prints 2 i11 + k1 and 2 i12 + k2 beside every l and m; for
-    N2 = 1 it prints 2 i11 + k1 beside l = 2 i11 + 1, but l + k1 beside the other three. They are l + k1 and m + k2;
-  - v~_{l,m} has three bits in 003, each of which bars it; 01 reads the middle one, of (2 l, m).
+    N2 = 1 it prints 2 i11 + k1 beside l = 2 i11 + 1, but l + k1 beside the other three. They are l + k1 and m + k2.
 
 What is sent and what is asked of the answers
 ---------------------------------------------
@@ -66,6 +66,7 @@ answer, so that a mistake in one of them goes unseen here; table.py checks them 
 import cmath
 import collections
 import functools
+import itertools
 import math
 import sys
 
@@ -293,11 +294,9 @@ def bits_of_beam(s, beam):
     """The bits associated with all precoders that are based on a beam."""
     if beam.vector is v_tilde:
         l, m = beam.l, beam.m
-        _, middle, _ = ((s.N2 * s.O2 * (2 * l - 1) + m) % mask_bits(s),
-                        s.N2 * s.O2 * (2 * l) + m,
-                        s.N2 * s.O2 * (2 * l + 1) + m)
-        # 003 associates all three with v~_{l,m}; 01 reads the middle one, and 01 decides.
-        return [middle]
+        return [(s.N2 * s.O2 * (2 * l - 1) + m) % mask_bits(s),
+                s.N2 * s.O2 * (2 * l) + m,
+                s.N2 * s.O2 * (2 * l + 1) + m]
     return [bit_by_phases(s)[block(s, 1, 1, beam)[0]]]
 
 
@@ -424,7 +423,7 @@ SINGLE = Codebook(
                 highest=15_121, apart=142_504, apart_at=((4, 3), 8)))
 
 
-# ---- The worked cases of 01, held against the model ------------------------------------------------------------------
+# ---- The worked cases of 01 and 02, held against the model -----------------------------------------------------------
 
 def worked_cases(tests):
     def number(report, mask=None, length=1000, function=PHASES):
@@ -467,6 +466,30 @@ def worked_cases(tests):
     case(10, number(one_layer, length=4) == 0, number(one_layer, length=3) == 11,
          number(one_layer, length=8, function=WEIGHTS) == 0, number(one_layer, length=7, function=WEIGHTS) == 11)
 
+    def barring(report):
+        """The bits that bar a report when each is the only zero."""
+        s = SETTINGS[report[:2]]
+        return [k for k in range(mask_bits(s)) if number(report, mask=SINGLE.ones_but(s, k)) == 10]
+
+    case('of three bits', barring((8, 1, 1, 3, 1, 0, 0, 0)) == [1, 2, 3], barring((8, 1, 1, 3, 0, 0, 0, 0)) == [0, 1, 31],
+         barring((4, 2, 1, 3, 1, 3, 0, 0)) == [11, 19, 27], barring((4, 4, 1, 4, 0, 5, 0, 0)) == [5, 21, 245],
+         barring((8, 1, 1, 2, 2, 0, 0, 0)) == [2], barring((6, 1, 1, 3, 2, 0, 0, 0)) == [2, 6])
+
+
+def bits_of_half_length(tests):
+    """Every half-length beam has three bits, all of its own m, and is the first rows of the beam of the middle one."""
+    for s in SETTINGS.values():
+        if s.P < 16:
+            continue
+        tests.begin(f'the bits of half-length beams of {SINGLE.name_of(s)}, by the model')
+        beam_of = {bit: phases for phases, bit in bit_by_phases(s).items()}
+        for l, m in itertools.product(range(s.N1 * s.O1 // 2), range(s.N2 * s.O2)):
+            beam = Beam(v_tilde, l, m)
+            bits = bits_of_beam(s, beam)
+            phases = block(s, 1, 1, beam)[0]
+            tests.check(len(set(bits)) == 3 and {bit % (s.N2 * s.O2) for bit in bits} == {m}, f'v~ of {l}, {m}: {bits}')
+            tests.check(beam_of[bits[1]][:len(phases)] == phases, f'v~ of {l}, {m} is not that of bit {bits[1]}')
+
 
 if __name__ == '__main__':
-    sys.exit(main(SINGLE, [worked_cases], __doc__, sys.argv[1:]))
+    sys.exit(main(SINGLE, [worked_cases, bits_of_half_length], __doc__, sys.argv[1:]))

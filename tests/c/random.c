@@ -188,10 +188,12 @@ static const char *const check_names[CHECKS] = {
     [BASELINE_OUT] = "the buffer is that of the version by hand",
 };
 
-// Faults, seeded into some calls, each with the check that has to see it; the last two are for several panels alone.
+// Faults, seeded into some calls, each with the check that has to see it; MIDDLE_ALONE is for the single panel alone, and
+// the last two are for several panels.
 enum {
     NONE, UNKNOWN_REFUSAL, PORTS_ON_REFUSAL, BYTE_ON_REFUSAL, WRONG_SCALE, NO_ENTRY, PAST_ANSWER, NOT_WRITTEN, BEFORE_OUT,
-    BEHIND_OUT, BEFORE_BEAMS, BEHIND_BEAMS, BEAMS_BYTE, OTHER_ORDER, OTHER_ENTRY, OTHER_PANEL_ORDER, OTHER_PANEL, FAULTS
+    BEHIND_OUT, BEFORE_BEAMS, BEHIND_BEAMS, BEAMS_BYTE, OTHER_ORDER, OTHER_ENTRY, MIDDLE_ALONE, OTHER_PANEL_ORDER,
+    OTHER_PANEL, FAULTS
 };
 static const struct { const char *name; int seen_by; } faults[FAULTS] = {
     [UNKNOWN_REFUSAL] = {"one above all refusals for 11", KNOWN},
@@ -208,6 +210,7 @@ static const struct { const char *name; int seen_by; } faults[FAULTS] = {
     [BEAMS_BYTE] = {"a byte of the mask changed", BEAMS},
     [OTHER_ORDER] = {"11 before 10", BASELINE_RECORD},
     [OTHER_ENTRY] = {"the first entry in place of another", BASELINE_OUT},
+    [MIDDLE_ALONE] = {"of a half-length beam the middle bit alone", BASELINE_RECORD},
     [OTHER_PANEL_ORDER] = {"9 before 12", BASELINE_RECORD},
     [OTHER_PANEL] = {"the first panel in place of the last", BASELINE_OUT},
 };
@@ -234,6 +237,13 @@ static uint32_t ports_of(const request *q) { return 2 * q->report.ng * q->report
 CALL(call, aspenflick)
 CALL(call_baseline, baseline)
 
+// Whether the middle one of a half-length beam's three bits is one, of a single-panel report whose numbers are in range.
+static int middle_is_one(const request *q, const uint8_t *mask) {
+    const aspenflick_panel_report *r = &q->report;
+    uint32_t down = r->n2 > 1 ? 4 * r->n2 : 1, k = down * 2 * r->i11 + r->i12;
+    return ports_of(q) >= 16 && (r->v == 3 || r->v == 4) && mask[k / 8] >> k % 8 & 1;
+}
+
 // Spoils what a call has given, as a library with that fault would: twice alike. `choice` picks the byte or the entry.
 static aspenflick_record spoil(int fault, uint32_t choice, int function, const request *q, uint8_t *mask, uint8_t *bytes,
                                const uint8_t *bytes_lent, aspenflick_record record) {
@@ -249,6 +259,13 @@ static aspenflick_record spoil(int fault, uint32_t choice, int function, const r
         if (fault == BYTE_ON_REFUSAL && len) bytes[choice % len] ^= 1;
         if (fault == OTHER_ORDER && record.refusal == 10 && len < needed) record.refusal = 11;
         if (fault == OTHER_PANEL_ORDER && record.refusal == 12 && bad_i2) record.refusal = 9;
+        if (fault == MIDDLE_ALONE && record.refusal == 10 && middle_is_one(q, mask)) {
+            static const uint8_t ones[] = {
+                255, 255, 255, 255, 255, 255, 255, 255, 255, 255, 255, 255, 255, 255, 255, 255,
+                255, 255, 255, 255, 255, 255, 255, 255, 255, 255, 255, 255, 255, 255, 255, 255,
+            };
+            record = call_baseline(function, q, ones, bytes);
+        }
     } else {
         uint8_t *some = bytes + choice % scale * entry;
         if (fault == WRONG_SCALE) record.scale -= record.ports;
@@ -353,12 +370,13 @@ static void ask(int function, uint64_t number, int fault) {
 }
 
 static int first_function(int fault) { return fault < OTHER_PANEL_ORDER ? PHASES : PANEL_PHASES; }
+static int past_function(int fault) { return fault == MIDDLE_ALONE ? PANEL_PHASES : FUNCTIONS; }
 
 // Of several panels, whose calls take longer, half as many.
 static uint64_t requests(int function, uint64_t count) { return function < PANEL_PHASES ? count : count / 2; }
 
 static void run(uint64_t count, int fault) {
-    for (int function = first_function(fault); function < FUNCTIONS; function++) {
+    for (int function = first_function(fault); function < past_function(fault); function++) {
         for (int k = 0; k <= REFUSALS; k++) outcomes[function][k] = 0;
         for (int k = 0; k < CHECKS; k++) failures[function][k] = 0;
         for (uint64_t number = 0; number < requests(function, count); number++) ask(function, number, fault);
@@ -404,7 +422,7 @@ int main(int arguments, char **argument) {
         int check = faults[fault].seen_by, first = first_function(fault);
         run(FAULTY, fault);
         printf("seeded: %s: `%s` fails", faults[fault].name, check_names[check]);
-        for (int function = first; function < FUNCTIONS; function++) {
+        for (int function = first; function < past_function(fault); function++) {
             unsigned long long times = failures[function][check];
             printf("%s %llu times for %s%s", function > first ? "," : "", times, functions[function].name, test(times > 0));
         }

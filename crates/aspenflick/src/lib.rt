@@ -45,9 +45,9 @@
 // Bit k of a mask is bit k mod 8, from the lowest, of byte k / 8. A zero bit bars. `ranks` has bit v-1 for v layers.
 // `beams` has 4·n1·M bits, bit l·M + m for the beam (l,m), l modulo 4·n1 and m modulo M; for several panels it is the mask
 // of one of them. Two ports have one byte: bits 0 to 3 for i2 with one layer, bits 4 and 5 for i2 with two. Three and four
-// layers of one panel with 16 ports or more have half-length beams, for which one bit is read, that of (2·i11, i12). The
-// standard ties such a beam to two bits more, those of (2·i11 - 1, i12) and (2·i11 + 1, i12), which are not read: a report
-// is not refused where these alone would bar it. Several panels have no half-length beams.
+// layers of one panel with 16 ports or more have half-length beams, for which three bits are read, those of
+// (2·i11 - 1, i12), (2·i11, i12) and (2·i11 + 1, i12); at i11 = 0 the first is that of (4·n1 - 1, i12). One zero among them
+// bars the report. Several panels have no half-length beams.
 ghost use mathlib.Core.Path.{_≡_};
 ghost use Rattle.ground.specs.Cases.{_⇒_∣_};
 ghost use Rattle.settings.specs.Settings.{isSetting, maskBytes};
@@ -60,7 +60,7 @@ ghost use Rattle.aspenflick.specs.Version.{version};
 // function is linked by a name that ends with it: a program compiled with a header of another major number does not link.
 pub const VERSION_MAJOR: u32 = 1;
 
-pub const VERSION_MINOR: u32 = 1;
+pub const VERSION_MINOR: u32 = 2;
 
 pub const VERSION_PATCH: u32 = 0;
 

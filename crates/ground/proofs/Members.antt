@@ -1,6 +1,6 @@
 -- Elements of lists: where they stand, what is known of them, and that none stands there twice.
 use mathlib.Core.Path.{_≡_, refl, sym, subst, _∙_}
-use mathlib.Core.Logic.{_⊎_, inl, inr}
+use mathlib.Core.Logic.{_≢_, _⊎_, inl, inr}
 use mathlib.Core.List.{List, [], _∷_, _++_}
 use Prim.Native.Nat.{ℕ, zero, suc, _+_, _<_, _≤_}
 use native.Mathlib.Nat.{eq-or-lt-of-le}
@@ -37,6 +37,20 @@ module _ {A : Type 0} where
         | inr r ↦ disjoint x (member-first refl) r
       ])
       (once-append p q (λ y l r. disjoint y (member-further l) r))
+
+-- three elements that all differ
+pub three-once : {A : Type 0} {x y z : A} → x ≢ y → x ≢ z → y ≢ z → NoRepeats (x ∷ y ∷ z ∷ [])
+three-once {A} {x} {y} {z} xy xz yz = once-cons first (once-cons second (once-cons none once-nil))
+  where
+    none : Member z [] → ⊥
+    none = elim [ ]
+
+    second : Member y (z ∷ []) → ⊥
+    second (member-first e) = yz e
+
+    first : Member x (y ∷ z ∷ []) → ⊥
+    first (member-first e) = xy e
+    first (member-further (member-first e)) = xz e
 
 -- ---- along a list
 

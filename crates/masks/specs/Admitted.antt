@@ -31,15 +31,22 @@ admitted x mask ranks room =
     ∣ ltb room (x .entries) ⇒ 11
     ∣ 0
 
--- the same of at most two beams
-abbrev pub upToTwo : Needs → Needs
-upToTwo x = record {
+-- the same of so many beams
+abbrev pub counting : ℕ → Needs → Needs
+counting n x = record {
   refusal = x .refusal;
   bytes = x .bytes;
   v = x .v;
   entries = x .entries;
-  count = ltb 1 (x .count) ⇒ 2 ∣ x .count;
+  count = n;
   width = x .width;
   l = x .l;
   m = x .m;
 }
+
+-- of at most two, and of three
+abbrev pub upToTwo : Needs → Needs
+upToTwo x = counting (ltb 1 (x .count) ⇒ 2 ∣ x .count) x
+
+abbrev pub ofThree : Needs → Needs
+ofThree x = counting 3 x

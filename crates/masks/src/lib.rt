@@ -5,7 +5,7 @@ ghost use lib.Dec.{ltb};
 ghost use lib.ListN.{drop};
 ghost use Rattle.ground.specs.Cases.{_⇒_∣_};
 ghost use Rattle.plan.specs.Masks.{isZero, barred, rankBarred};
-ghost use Rattle.masks.specs.Admitted.{bitsOf, beforeBits, admitted, upToTwo};
+ghost use Rattle.masks.specs.Admitted.{bitsOf, beforeBits, admitted, upToTwo, ofThree};
 
 // What a report asks for: the first of its codebook's own refusals that applies, or 0; the bytes of the beam mask; its
 // layers; the entries v·P of its precoder; and how many beams the mask is asked for, one to four, how many bits it has for
@@ -137,6 +137,28 @@ pub fn admit_two(x: Needs, mask: &[u8], ranks: u8, room: usize) -> u32
         return short_of(x.entries, room);
     }
     if is_zero(mask, x.width, l[1], m[1]) {
+        return 10;
+    }
+    short_of(x.entries, room)
+}
+
+// The same where three beams are asked for, however many are counted.
+pub fn admit_three(x: Needs, mask: &[u8], ranks: u8, room: usize) -> u32
+    ensures { λ k. ⌜ k ≡ admitted (ofThree x) (now (mask .entry)) ranks room ⌝ }
+{
+    let k = before_bits(x, mask.len(), ranks);
+    if k != 0 {
+        return k;
+    }
+    let l = x.l;
+    let m = x.m;
+    if is_zero(mask, x.width, l[0], m[0]) {
+        return 10;
+    }
+    if is_zero(mask, x.width, l[1], m[1]) {
+        return 10;
+    }
+    if is_zero(mask, x.width, l[2], m[2]) {
         return 10;
     }
     short_of(x.entries, room)

@@ -1,5 +1,5 @@
 -- The multi-panel codebook is lawful.
-use mathlib.Core.Path.{_≡_, refl, ap₂}
+use mathlib.Core.Path.{_≡_, refl, sym, ap₂, subst}
 use mathlib.Core.Logic.{inl, inr}
 use mathlib.Core.Bool.{Bool, true, false, cond}
 use mathlib.Core.List.{List, [], _∷_}
@@ -83,4 +83,5 @@ panels-lawful = record {
   sound = plan-sound;
   within = bits-within;
   beams-read = beams-read;
+  neighbours-read = λ r h half. absurd (subst T (sym half) tt);
 }

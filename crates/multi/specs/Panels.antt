@@ -195,5 +195,6 @@ panels = record {
   bitsRead = bitsRead;
   beamed = λ r. true;
   width = λ r. down (r .n2);
+  isHalf = λ r. false;
   plan = plan;
 }

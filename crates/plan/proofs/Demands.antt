@@ -9,8 +9,8 @@ use Rattle.ground.proofs.Lists.{all-ones, among-at}
 use Rattle.turn.specs.Exact.{Orthogonal}
 use Rattle.turn.proofs.Cancel.{cancels-orthogonal}
 use Rattle.weight.proofs.Rules.{power-lowest, power-highest}
-use Rattle.plan.specs.Plan.{Layer, past}
-use Rattle.plan.specs.Masks.{bit}
+use Rattle.plan.specs.Plan.{Layer, beamsAcross, past, layerAt}
+use Rattle.plan.specs.Masks.{bit, threeBits}
 use Rattle.plan.specs.Answer.{Codebook, refusal}
 use Rattle.plan.specs.Lawful.{Lawful}
 use Rattle.plan.specs.Demands.{Demands}
@@ -20,7 +20,7 @@ use Rattle.plan.proofs.Calls as calls
 
 pub demanded : {R : Type 0} (b : Codebook R) {InRange : R → Type 0} (order : List ℕ) → b .order ≡ order → Lawful b InRange
     → (r : R) (mask : List ℕ) (ranks : ℕ) → Demands b InRange order r mask ranks
-unfolding refusal
+unfolding refusal threeBits
 demanded b order same lawful r mask ranks = record {
   every-input-answered = λ room answer lent. record { record-is = refl; buffer-is = refl };
   answered-once = λ room. one-answer;
@@ -46,6 +46,14 @@ demanded b order same lawful r mask ranks = record {
       all-ones (λ (x : Layer). bit mask (b .width r * x .l + x .m)) (b .plan r .layers) past
       (λ j k. calls.read-one b lawful r mask ranks room call e _ (lawful .beams-read r range h j (omega (arith, many))))
       ∙ ap (λ (n : ℕ). replicate n 1) many;
+  neighbours-not-barred = λ room call e h j k.
+      let range = calls.in-range b lawful r mask ranks room call e in
+      let x = layerAt (b .plan r) j in
+      let bits = threeBits (beamsAcross (b .plan r)) (b .width r) (x .l) (x .m) in
+      all-ones (bit mask) bits 0
+      (λ i few.
+      calls.read-one b lawful r mask ranks room call e _
+      (lawful .neighbours-read r range h j k _ (rw map-id at (among-at (λ k. k) bits 0 i few))));
   accepted-as-weights = λ call e.
       let long = calls.length-weights b lawful r mask ranks call e in
       let p = as-accepted refl call e _ long in

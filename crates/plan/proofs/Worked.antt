@@ -1,6 +1,6 @@
 -- Worked reports of any codebook, as rows of a table: what is asked, and what is answered.
-use mathlib.Core.List.{List, [], _∷_}
-use Prim.Native.Nat.{ℕ}
+use mathlib.Core.List.{List, [], _∷_, _++_}
+use Prim.Native.Nat.{ℕ, _-_, _/_, _%_, _^_}
 use lib.Dec.{eqb}
 use lib.ListN.{length, take, drop, replicate}
 use Rattle.ground.specs.Cases.{_⇒_∣_}
@@ -30,6 +30,10 @@ pub record Row (R : Type 0) : Type 0 where
 -- a mask of so many bytes, all bits ones
 abbrev pub ones : ℕ → List ℕ
 ones bytes = replicate bytes 255
+
+-- the same but for bit k, which is zero
+abbrev pub onesBut : ℕ → ℕ → List ℕ
+onesBut bytes k = ones (k / 8) ++ ((255 - 2 ^ (k % 8)) ∷ ones (bytes - k / 8 - 1))
 
 -- a buffer of so many entries as it is lent: no phase
 abbrev pub fresh : ℕ → List ℕ

@@ -27,7 +27,7 @@ asked r mask ranks room = record { report = r; mask = mask; ranks = ranks; room 
 
 -- A codebook over reports R: the tests that need the report alone, by number; the order in which all are tried; the bytes of
 -- the beam mask, the bits of it that a report reads, whether these are bits of beams and then how many there are for each
--- l; and the plan of a report.
+-- l; whether the beams have half their length; and the plan of a report.
 pub record Codebook (R : Type 0) : Type 0 where
   pub rule : R → ℕ → Bool
   pub order : List ℕ
@@ -35,6 +35,7 @@ pub record Codebook (R : Type 0) : Type 0 where
   pub bitsRead : R → List ℕ
   pub beamed : R → Bool
   pub width : R → ℕ
+  pub isHalf : R → Bool
   pub plan : R → Plan
 
 -- the numbers whose tests every codebook shares; the others are its own

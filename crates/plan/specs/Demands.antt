@@ -7,7 +7,7 @@
 use mathlib.Core.Path.{_≡_}
 use mathlib.Core.Logic.{_≢_, _↔_}
 use mathlib.Core.Bool.{true}
-use mathlib.Core.List.{List, _++_, map}
+use mathlib.Core.List.{List, [], _∷_, _++_, map}
 use Prim.Native.Nat.{ℕ, _+_, _*_, _/_, _<_, _≤_}
 use lib.IntN.{ℤ, natAbs}
 use lib.ListN.{length, drop, getD, replicate}
@@ -16,8 +16,8 @@ use Rattle.turn.specs.Exact.{Orthogonal}
 use Rattle.weight.specs.Table.{noWeight, weight, pairs}
 use Rattle.weight.specs.Products.{re, im, power, Within, cross, portPower}
 use Rattle.plan.specs.declared.Record.{Record}
-use Rattle.plan.specs.Plan.{matrix, layerIn}
-use Rattle.plan.specs.Masks.{bit}
+use Rattle.plan.specs.Plan.{beamsAcross, layerAt, matrix, layerIn}
+use Rattle.plan.specs.Masks.{bit, threeBits}
 use Rattle.plan.specs.Answer.{asked, Codebook, refused, planned, recordOf, bufferOf, test, refusal, Called}
 use Rattle.plan.specs.Answer.{PhasesLeft, weightsOf, WeightsLeft}
 
@@ -70,6 +70,13 @@ module _ {R : Type 0} (b : Codebook R) (InRange : R → Type 0) (order : List �
     pub layers-not-barred : {A : Type 0} (room : ℕ) {answer lent left : List A} {given : Record}
         → Called b r mask ranks room answer lent given left → given .refusal ≡ 0 → b .beamed r ≡ true
         → map (λ x. bit mask (b .width r * x .l + x .m)) (b .plan r .layers) ≡ replicate v 1
+    -- 2c. Where beams have half their length, three bits are one for each layer: those of its beam (l,m) and of its
+    -- neighbours (l - 1, m) and (l + 1, m), the first numbers modulo N1·O1. (The half-length beam of (i11, i12) has
+    -- l = 2·i11 and m = i12.)
+    pub neighbours-not-barred : {A : Type 0} (room : ℕ) {answer lent left : List A} {given : Record}
+        → Called b r mask ranks room answer lent given left → given .refusal ≡ 0 → b .isHalf r ≡ true
+        → (j : ℕ) → j < v → let x = layerAt (b .plan r) j in
+        map (bit mask) (threeBits (beamsAcross (b .plan r)) (b .width r) (x .l) (x .m)) ≡ 1 ∷ 1 ∷ 1 ∷ []
     -- 2d. An accepted report leaves its weights, 2·v·P numbers, and after them what was lent.
     pub accepted-as-weights : {lent left : List ℤ} {given : Record} → WeightsLeft b r mask ranks lent given left
         → given .refusal ≡ 0

@@ -6,8 +6,9 @@ use Prim.Native.Nat.{ℕ, _+_, _*_, _<_}
 use lib.Dec.{T}
 use Rattle.ground.specs.Lists.{among}
 use Rattle.ground.specs.First.{numbered, part, None}
-use Rattle.plan.specs.Plan.{layerAt}
+use Rattle.plan.specs.Plan.{beamsAcross, layerAt}
 use Rattle.plan.specs.Sound.{Sound}
+use Rattle.plan.specs.Masks.{threeBits}
 use Rattle.plan.specs.Answer.{Codebook, own}
 
 -- `InRange` is the codebook's own word for a report that its rules allow.
@@ -22,3 +23,7 @@ pub record Lawful {R : Type 0} (b : Codebook R) (InRange : R → Type 0) : Type 
   pub within : (r : R) → InRange r → (k : ℕ) → T (among k (b .bitsRead r)) → k < 8 * b .maskBytes r
   pub beams-read : (r : R) → InRange r → b .beamed r ≡ true → (j : ℕ) → j < b .plan r .v
       → let x = layerAt (b .plan r) j in T (among (b .width r * x .l + x .m) (b .bitsRead r))
+  -- and where beams have half their length, so are the three bits of each
+  pub neighbours-read : (r : R) → InRange r → b .isHalf r ≡ true → (j : ℕ) → j < b .plan r .v
+      → let x = layerAt (b .plan r) j in
+      (k : ℕ) → T (among k (threeBits (beamsAcross (b .plan r)) (b .width r) (x .l) (x .m))) → T (among k (b .bitsRead r))

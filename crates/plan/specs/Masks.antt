@@ -1,7 +1,7 @@
--- Masks: a bit of one, and whether some bit of a list is zero.
+-- Masks: a bit of one, whether some bit of a list is zero, and the three bits of a half-length beam.
 use mathlib.Core.Bool.{Bool}
-use mathlib.Core.List.{List}
-use Prim.Native.Nat.{ℕ, _-_, _/_, _%_, _^_}
+use mathlib.Core.List.{List, [], _∷_}
+use Prim.Native.Nat.{ℕ, _+_, _-_, _*_, _/_, _%_, _^_}
 use lib.Dec.{eqb}
 use lib.ListN.{getD}
 use Rattle.ground.specs.Lists.{some}
@@ -24,3 +24,10 @@ barred mask bits = some (isZero mask) bits
 -- bit v - 1 of the rank mask is zero
 unfoldable pub rankBarred : ℕ → ℕ → Bool
 rankBarred ranks v = eqb (bitOf ranks (v - 1)) 0
+
+-- the three bits of a half-length beam that stands in a plan as (l,m), in a mask of so many l and so many bits for each:
+-- those of (l - 1, m), (l, m) and (l + 1, m), l modulo the number of all l
+unfoldable pub threeBits : ℕ → ℕ → ℕ → ℕ → List ℕ
+threeBits across width l m =
+    let at : ℕ → ℕ = λ k. width * (k % across) + m in
+    at (l + across - 1) ∷ at l ∷ at (l + 1) ∷ []

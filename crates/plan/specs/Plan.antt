@@ -20,6 +20,10 @@ pub record Plan : Type 0 where
   pub block : Setting
   pub layers : List Layer
 
+-- N1·O1: how many l there are, of whole beams and of half-length ones
+abbrev pub beamsAcross : Plan → ℕ
+beamsAcross p = p .block .n1 * p .block .o1
+
 -- past the last layer
 abbrev pub past : Layer
 past = record { l = 0; m = 0; co = [] }

@@ -1,15 +1,37 @@
 -- The single-panel codebook answers for the demands (crates/plan/specs/Demands.antt), with the refusals 1 to 11 in order.
-use mathlib.Core.Path.{refl}
-use mathlib.Core.List.{List, [], _∷_}
-use Prim.Native.Nat.{ℕ}
+use mathlib.Core.Path.{_≡_, refl}
+use mathlib.Core.Bool.{true}
+use mathlib.Core.List.{List, [], _∷_, map}
+use Prim.Native.Nat.{ℕ, _≤_}
+use borrow.Author.Tests.{le-leb}
+use Rattle.settings.specs.Settings.{ports}
+use Rattle.settings.specs.Ranges.{halfLength}
 use Rattle.report.specs.declared.Report.{Report}
 use Rattle.report.specs.Rules.{InRange}
+use Rattle.report.specs.Beams.{isHalf}
+use Rattle.plan.specs.declared.Record.{Record}
+use Rattle.plan.specs.Masks.{bit}
+use Rattle.plan.specs.Answer.{Called}
 use Rattle.plan.specs.Demands.{Demands}
 use Rattle.plan.proofs.Demands.{demanded}
+use Rattle.single.specs.Masks.{beamBit, neighbours}
 use Rattle.single.specs.Single.{single}
+use Rattle.single.proofs.Neighbours.{half-bits}
 use Rattle.single.proofs.Lawful.{single-lawful}
 
 -- of every report, beam mask and rank mask
 pub single-demanded : (r : Report) (mask : List ℕ) (ranks : ℕ)
     → Demands single InRange (1 ∷ 2 ∷ 3 ∷ 4 ∷ 5 ∷ 6 ∷ 7 ∷ 8 ∷ 9 ∷ 10 ∷ 11 ∷ []) r mask ranks
 single-demanded = demanded single _ refl single-lawful
+
+-- 2c in the report's own numbers: where one with three or four layers on 16 ports or more is accepted, the bits of
+-- (2·i11 - 1, i12), the first number modulo N1·O1, of (2·i11, i12) and of (2·i11 + 1, i12) are one.
+pub three-bits-one : (r : Report) (mask : List ℕ) (ranks room : ℕ) {A : Type 0} {answer lent left : List A} {given : Record}
+    → Called single r mask ranks room answer lent given left → given .refusal ≡ 0
+    → 3 ≤ r .v → r .v ≤ 4 → 16 ≤ ports (r .n1) (r .n2)
+    → map (bit mask) (map (beamBit (r .n2)) (neighbours (r .n1) (r .i11) (r .i12))) ≡ 1 ∷ 1 ∷ 1 ∷ []
+unfolding halfLength neighbours
+three-bits-one r mask ranks room call e three four sixteen =
+    let demands = single-demanded r mask ranks in
+    let half : isHalf r ≡ true = rw (le-leb 3 (r .v) three, le-leb (r .v) 4 four, le-leb 16 _ sixteen) in
+    rw (half-bits r (demands .accepted-in-range room call e) half) at (demands .bits-read-are-one room call e)

@@ -1,4 +1,4 @@
--- The worked reports of 01, as one table, and one theorem that every row of it holds.
+-- The worked reports of 01 and 02, as one table, and one theorem that every row of it holds.
 use mathlib.Core.Path.{_≡_, refl}
 use mathlib.Core.List.{List, [], _∷_, map, zipWith}
 use Prim.Native.Nat.{ℕ}
@@ -13,10 +13,10 @@ use Rattle.report.specs.Beams.{n, base, offsets, moved, beams}
 use Rattle.report.specs.Listed.{asks}
 use Rattle.plan.specs.declared.Record.{Record}
 use Rattle.plan.specs.Answer.{weightsOf}
-use Rattle.plan.proofs.Worked.{Row, ones, differs, accepts, refuses, said, definedBy}
+use Rattle.plan.proofs.Worked.{Row, ones, onesBut, differs, accepts, refuses, said, definedBy}
 use Rattle.single.specs.Columns.{byRank, quarters}
 use Rattle.single.specs.Plan.{whole, quartered, layers}
-use Rattle.single.specs.Masks.{twoPortBit, bitsRead}
+use Rattle.single.specs.Masks.{twoPortBit, neighbours, bitsRead}
 use Rattle.single.specs.Single.{single}
 
 pub reports : List (Row Report)
@@ -49,6 +49,33 @@ reports =
     ∷ refuses (asks 2 1 1 2 0 0 2 0) (ones 1) 8 8
     -- 10
     ∷ refuses (asks 2 1 1 1 1 0 0 1) (ones 1) 3 11
+    -- the three bits of a half-length beam: at i11 = 1 of (8,1) those of (1,0), (2,0) and (3,0), and no other
+    ∷ refuses (asks 8 1 1 3 1 0 0 0) (onesBut 4 1) 48 10
+    ∷ refuses (asks 8 1 1 3 1 0 0 0) (onesBut 4 2) 48 10
+    ∷ refuses (asks 8 1 1 3 1 0 0 0) (onesBut 4 3) 48 10
+    ∷ accepts (asks 8 1 1 3 1 0 0 0) (14 ∷ 0 ∷ 0 ∷ 0 ∷ []) 16 3 48 0 []
+    -- at i11 = 0 the first is of the last row, (31,0); at the last i11 it is the third
+    ∷ refuses (asks 8 1 1 3 0 0 0 0) (onesBut 4 31) 48 10
+    ∷ accepts (asks 8 1 1 3 0 0 0 0) (3 ∷ 0 ∷ 0 ∷ 128 ∷ []) 16 3 48 0 []
+    ∷ refuses (asks 8 1 1 4 15 0 0 0) (onesBut 4 31) 64 10
+    ∷ accepts (asks 8 1 1 4 15 0 0 0) (0 ∷ 0 ∷ 0 ∷ 224 ∷ []) 16 4 64 0 []
+    -- m is kept: at (1,3) of (4,2) the bits of (1,3), (2,3) and (3,3), and not those of (2,2) and (2,4)
+    ∷ refuses (asks 4 2 1 3 1 3 0 0) (onesBut 16 11) 48 10
+    ∷ refuses (asks 4 2 1 3 1 3 0 0) (onesBut 16 19) 48 10
+    ∷ refuses (asks 4 2 1 3 1 3 0 0) (onesBut 16 27) 48 10
+    ∷ accepts (asks 4 2 1 3 1 3 0 0) (onesBut 16 18) 16 3 48 0 []
+    ∷ accepts (asks 4 2 1 3 1 3 0 0) (onesBut 16 20) 16 3 48 0 []
+    -- at (0,5) of (4,4), four layers, those of (15,5), (0,5) and (1,5), and not those of (15,4) and (15,6)
+    ∷ refuses (asks 4 4 1 4 0 5 0 0) (onesBut 32 245) 128 10
+    ∷ refuses (asks 4 4 1 4 0 5 0 0) (onesBut 32 5) 128 10
+    ∷ refuses (asks 4 4 1 4 0 5 0 0) (onesBut 32 21) 128 10
+    ∷ accepts (asks 4 4 1 4 0 5 0 0) (onesBut 32 244) 32 4 128 0 []
+    ∷ accepts (asks 4 4 1 4 0 5 0 0) (onesBut 32 246) 32 4 128 0 []
+    -- whole beams are read by their own bits alone: two layers, and three at 12 ports
+    ∷ refuses (asks 8 1 1 2 2 0 0 0) (onesBut 4 2) 32 10
+    ∷ accepts (asks 8 1 1 2 2 0 0 0) (4 ∷ 0 ∷ 0 ∷ 0 ∷ []) 16 2 32 0 []
+    ∷ refuses (asks 6 1 1 3 2 0 0 0) (onesBut 3 6) 36 10
+    ∷ accepts (asks 6 1 1 3 2 0 0 0) (68 ∷ 0 ∷ 0 ∷ []) 12 3 36 0 []
     ∷ []
 
 -- what the definitions give; it is computed with all of them
@@ -57,7 +84,7 @@ unfolding
     definedBy settings isSetting maskBytes byRank quarters
     modeTwo halfLength n base kTwo kThree kRows offsets moved beams
     halvesI11 i11Values halvesI12 i12Values i13Values i2Values
-    whole quartered layers twoPortBit bitsRead rule
+    whole quartered layers twoPortBit neighbours bitsRead rule
 defined = definedBy single
 
 -- row by row

@@ -1,11 +1,12 @@
 -- What the code hands over for the masks and the buffer is what the codebook asks for.
 use mathlib.Core.Path.{_≡_, refl, sym, ap, _∙_}
 use mathlib.Core.Logic.{_≢_}
+use mathlib.Core.Bool.{true, false}
 use mathlib.Core.List.{List, [], _∷_, map}
-use Prim.Native.Nat.{ℕ, _*_, _≤_}
+use Prim.Native.Nat.{ℕ, _+_, _-_, _*_, _%_, _≤_}
 use native.Mathlib.Nat.{not-suc-le-zero}
 use native.Mathlib.Omega.{arith}
-use lib.ListN.{length}
+use lib.ListN.{length, getD}
 use borrow.Author.Tests.{eq-eqb, ne-eqb}
 use Rattle.ground.specs.Lists.{each}
 use Rattle.settings.specs.declared.Beam.{Beam}
@@ -17,9 +18,10 @@ use Rattle.report.proofs.Offsets.{length-beams, offsets-some, offsets-few}
 use Rattle.masks.specs.declared.Needs.{Needs}
 use Rattle.masks.specs.Admitted.{bitsOf}
 use Rattle.masks.specs.Asks.{Asks}
-use Rattle.single.specs.Masks.{beamBit, twoPortBit, bitsRead}
+use Rattle.single.specs.Masks.{beamBit, twoPortBit, neighbours, bitsRead}
 use Rattle.single.specs.Single.{indices, single}
-use Rattle.single.proofs.Given.{number-said, bytes-said, said-in-range, ports-are}
+use Rattle.single.proofs.Neighbours.{whole-bits, half-beam, half-bits}
+use Rattle.single.proofs.Given.{number-said, bytes-said, said-in-range, half-said, ports-are}
 
 -- one to four beams, by their numbers
 bits-four : (n2 : ℕ) (xs : List Beam) → 1 ≤ length xs → length xs ≤ 4
@@ -39,13 +41,22 @@ unfolding bitsOf bitsRead
 port-bit r two e = rw (e, eq-eqb (r .n1) 1 two) (ap (λ (n : ℕ). n ∷ []) (omega arith))
 
 module _ (r : Report) {b : Beams} (e : b ≡ beamsOf r) where
+  -- half-length beams: those of three
+  pub half-bits-asked : b .refusal ≡ 0 → b .half ≡ true → {below : ℕ} → let l = getD (b .l) 0 0 in let m = getD (b .m) 0 0 in
+      below ≡ (l + b .across - 1) % b .across
+      → bitsOf 3 (b .down) (below ∷ l ∷ (l + 1) ∷ 0 ∷ []) (m ∷ m ∷ m ∷ 0 ∷ []) ≡ bitsRead r
+  unfolding bitsOf neighbours
+  half-bits-asked z t p =
+      let (h, s) = said-in-range r e z in
+      let half = half-said r h s t in
+      rw (p, s, h .setting, half-beam r h half, half-bits r h half)
+
   -- others: those of the beams
-  pub beam-bits : b .refusal ≡ 0 → r .n1 ≢ 1 → bitsOf (b .count) (b .down) (b .l) (b .m) ≡ bitsRead r
-  unfolding bitsRead
-  beam-bits z more =
+  pub beam-bits : b .refusal ≡ 0 → r .n1 ≢ 1 → b .half ≡ false → bitsOf (b .count) (b .down) (b .l) (b .m) ≡ bitsRead r
+  beam-bits z more t =
       let (h, s) = said-in-range r e z in
       let long = length-beams r in
-      rw (s, h .setting, ne-eqb (r .n1) 1 more)
+      rw (s, h .setting, whole-bits r (ne-eqb (r .n1) 1 more) (half-said r h s t))
       (bits-four (r .n2) (beams r) (omega (arith, offsets-some r)) (omega (arith, offsets-few r)))
 
   -- what every report hands over

@@ -1,16 +1,17 @@
 -- What a report's own numbers say, read field by field: the sizes, the beams and their steps.
-use mathlib.Core.Path.{_≡_, refl, sym, ap, _∙_}
+use mathlib.Core.Path.{_≡_, refl, sym, ap, _∙_, subst}
 use mathlib.Core.Logic.{_≢_}
-use mathlib.Core.Bool.{true}
+use mathlib.Core.Bool.{Bool, true}
 use mathlib.Core.List.{List, [], _∷_}
 use Prim.Native.Nat.{ℕ, zero, suc, _+_, _*_, _/_, _<_, _≤_}
 use native.Mathlib.Nat.{div-le-self, zero-mul, mul-le-mul}
 use native.Mathlib.Omega.{arith}
+use lib.Dec.{T}
 use lib.ListN.{getD, List·getD-eq-default}
 use borrow.Author.Tests.{not-false}
 use Rattle.ground.proofs.Booleans.{either}
 use Rattle.ground.specs.First.{first}
-use Rattle.turn.specs.Phase.{turn}
+use Rattle.turn.specs.Phase.{turn, quarter, phase}
 use Rattle.settings.specs.declared.Beam.{Beam}
 use Rattle.settings.specs.Settings.{isSetting, ports, across, down, maskBytes, sizesOf}
 use Rattle.settings.specs.Ranges.{beam}
@@ -18,9 +19,10 @@ use Rattle.settings.proofs.Known.{known, ports-few}
 use Rattle.report.specs.declared.Report.{Report}
 use Rattle.report.specs.declared.Beams.{Beams}
 use Rattle.report.specs.Rules.{rule, ownOrder, InRange}
-use Rattle.report.specs.Beams.{beams, four, said, beamsOf}
+use Rattle.report.specs.Beams.{isHalf, beams, four, said, beamsOf}
 use Rattle.report.proofs.InRange.{in-range-zero, zero-in-range, v-few}
 use Rattle.report.proofs.Reached.{beams-within, four-at, two-ports-beam}
+use Rattle.single.specs.Plan.{fOf}
 use Rattle.single.specs.Drawing.{stepOf}
 
 -- the beam at a place, and (0,0) past the last
@@ -32,6 +34,10 @@ at r i = getD (beams r) i (beam 0 0)
 said-of : (r : Report) (k : ℕ) → (said r k .refusal ≡ k) × (said r k .bytes ≡ sizesOf (r .n1) (r .n2) .bytes)
 said-of r zero = (refl, refl)
 said-of r (suc k) = (refl, refl)
+
+said-half : (r : Report) (k : ℕ) → said r k .half ≡ true → k ≡ 0
+said-half r zero h = refl
+said-half r (suc k) h = absurd (subst T (sym h) tt)
 
 module _ (r : Report) {b : Beams} (e : b ≡ beamsOf r) where
   pub number-said : b .refusal ≡ first (rule r) ownOrder
@@ -53,11 +59,23 @@ module _ (r : Report) {b : Beams} (e : b ≡ beamsOf r) where
   pub said-in-range : b .refusal ≡ 0 → InRange r × (b ≡ said r 0)
   said-in-range z = let h = zero-in-range r (sym number-said ∙ z) in (h, in-range-said h)
 
+  -- half-length beams are said of a report in range alone
+  pub half-accepted : b .half ≡ true → b .refusal ≡ 0
+  unfolding beamsOf
+  half-accepted h = number-said ∙ said-half r (first (rule r) ownOrder) (sym (ap (λ (x : Beams). x .half) e) ∙ h)
+
 -- ---- a report in range
 
 module _ (r : Report) {b : Beams} (h : InRange r) (e : b ≡ said r 0) where
   pub ports-are : b .ports ≡ ports (r .n1) (r .n2)
   ports-are = rw (e, h .setting)
+
+  -- the length of the beams and f are the report's
+  pub half-said : {half : Bool} → b .half ≡ half → isHalf r ≡ half
+  half-said t = sym (ap (λ (x : Beams). x .half) e) ∙ t
+
+  pub f-said : {fn : ℕ} → fn ≡ phase (b .n * quarter) → fn ≡ phase (fOf r)
+  f-said f = f ∙ ap (λ (x : Beams). phase (x .n * quarter)) e
 
   -- at most 8 layers of 32 ports
   pub entries-few : r .v * b .ports ≤ 256
@@ -81,6 +99,13 @@ module _ (r : Report) {b : Beams} (h : InRange r) (e : b ≡ said r 0) where
           rw (e, four-at (λ x. x .m) (beams r) i few) (omega (arith, w .m, k .down-few)),
           omega arith,
           omega arith,
+        )
+
+    pub beam-within : (getD (b .l) i 0 < b .across) × (getD (b .m) i 0 < b .down)
+    beam-within =
+        let w = beams-within r (h .setting) i in (
+          rw (e, h .setting, four-at (λ x. x .l) (beams r) i few) (w .l),
+          rw (e, h .setting, four-at (λ x. x .m) (beams r) i few) (w .m),
         )
 
     pub step-is : {s : ℕ} → s ≡ getD (b .l) i 0 * (turn / b .across) + 256 * (getD (b .m) i 0 * (turn / b .down))

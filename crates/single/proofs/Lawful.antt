@@ -1,12 +1,12 @@
 -- The single-panel codebook is lawful.
-use mathlib.Core.Path.{_≡_}
+use mathlib.Core.Path.{_≡_, subst}
 use mathlib.Core.Logic.{inl, inr}
 use mathlib.Core.Bool.{true, false, not}
 use mathlib.Core.List.{List, [], _∷_, map}
 use Prim.Native.Nat.{ℕ, suc, _+_, _*_, _<_}
 use native.Mathlib.Omega.{arith}
 use lib.Arith.{digits-lt}
-use lib.Dec.{T, eqb, eqb→eq}
+use lib.Dec.{T, eqb, eqb→eq, lit<}
 use lib.ListN.{getD}
 use borrow.Author.Tests.{eqb-true, eqb-false, not-true}
 use Rattle.ground.specs.Lists.{among}
@@ -20,17 +20,19 @@ use Rattle.settings.specs.Ranges.{beam}
 use Rattle.settings.proofs.Known.{mask-bits}
 use Rattle.report.specs.declared.Report.{Report}
 use Rattle.report.specs.Rules.{InRange}
-use Rattle.report.specs.Beams.{beams}
+use Rattle.report.specs.Beams.{isHalf, beams}
 use Rattle.report.proofs.InRange.{in-range, in-range-none, two-ports-i2}
 use Rattle.report.proofs.Offsets.{length-beams}
-use Rattle.report.proofs.Reached.{Reached, beams-within}
-use Rattle.plan.specs.Plan.{layerAt}
+use Rattle.report.proofs.Reached.{Reached}
+use Rattle.plan.specs.Plan.{beamsAcross, layerAt}
+use Rattle.plan.specs.Masks.{threeBits}
 use Rattle.plan.specs.Lawful.{Lawful}
 use Rattle.single.specs.Plan.{plan}
-use Rattle.single.specs.Masks.{beamBit, twoPortBit, bitsRead}
+use Rattle.single.specs.Masks.{beamBit, twoPortBit, neighbours, beamsRead, bitsRead}
 use Rattle.single.specs.Single.{single}
 use Rattle.single.proofs.Layers.{placeAt, layer-is, place-within}
-use Rattle.single.proofs.Sound.{plan-sound}
+use Rattle.single.proofs.Neighbours.{whole-bits, half-beam, half-bits, half-three, read-within}
+use Rattle.single.proofs.Sound.{same-beams, plan-sound}
 
 -- ---- the bits that a report reads
 
@@ -59,15 +61,28 @@ module _ (r : Report) (h : InRange r) where
       ])
       (λ e.
       rw (mask-bits (r .n1) (r .n2) (h .setting) (eqb-false (r .n1) 1 e))
-      (beam-bits-within (r .n1) (r .n2) (beams r) (beams-within r (h .setting)) k (rw e at t)))
+      (beam-bits-within (r .n1) (r .n2) (beamsRead r) (read-within r h) k (rw e at t)))
 
   -- and above two ports the bit of each layer's beam is among them
   beams-read : not (twoPorts (r .n1)) ≡ true → (j : ℕ) → j < r .v
       → let x = layerAt (plan r) j in T (among (down (r .n2) * x .l + x .m) (bitsRead r))
-  unfolding bitsRead
   beams-read above j k =
-      rw (layer-is r h j k, not-true (twoPorts (r .n1)) above)
-      (among-at (beamBit (r .n2)) (beams r) (beam 0 0) (placeAt r j) (rw length-beams (place-within r h j k)))
+      rw (layer-is r h j k)
+      (either (isHalf r)
+      (λ e.
+      rw (half-bits r h e, e, half-beam r h e)
+      (unfold neighbours in among-at (beamBit (r .n2)) (neighbours (r .n1) (r .i11) (r .i12)) (beam 0 0) 1 (lit< tt)))
+      (λ e.
+      rw (whole-bits r (not-true (twoPorts (r .n1)) above) e)
+      (among-at (beamBit (r .n2)) (beams r) (beam 0 0) (placeAt r j) (rw length-beams (place-within r h j k)))))
+
+  -- and those of its neighbours, where it has half its length
+  neighbours-read : isHalf r ≡ true → (j : ℕ) → j < r .v
+      → let x = layerAt (plan r) j in
+      (k : ℕ) → T (among k (threeBits (beamsAcross (plan r)) (down (r .n2)) (x .l) (x .m))) → T (among k (bitsRead r))
+  neighbours-read e j hj k t =
+      subst (λ (ks : List ℕ). T (among k ks)) (half-three r h e)
+      (rw (layer-is r h j hj, same-beams r h, e, half-beam r h e) at t)
 
 pub single-lawful : Lawful single InRange
 unfolding among numbered part
@@ -78,4 +93,5 @@ single-lawful = record {
   sound = plan-sound;
   within = within;
   beams-read = beams-read;
+  neighbours-read = neighbours-read;
 }

@@ -1,5 +1,6 @@
 -- Laws of the single-panel codebook.
 pub mod Layers
+pub mod Neighbours
 pub mod Apart
 pub mod Told
 pub mod Sound
@@ -7,4 +8,5 @@ pub mod Lawful
 pub mod Drawn
 pub mod Given
 pub mod Asked
+pub mod Judged
 pub mod Unique

@@ -9,6 +9,7 @@ use Rattle.settings.specs.declared.Beam.{Beam}
 use Rattle.report.specs.declared.Report.{Report}
 use Rattle.report.specs.Beams.{isHalf, beams, four}
 use Rattle.plan.specs.declared.Drawing.{Drawing}
+use Rattle.plan.specs.declared.Judged.{Judged}
 use Rattle.single.specs.Columns.{Added, o, ½, f, f+½, Bracket, byRank, place}
 use Rattle.single.specs.Plan.{fOf, tOf, blocks, rows}
 
@@ -50,3 +51,7 @@ drawingOf r = record {
   co = coPhases r;
   codes = isHalf r ⇒ halfCodes ∣ codesOf (r .v);
 }
+
+-- a report that is accepted: P, v and the scale, and what is to be written
+abbrev pub acceptedAs : ℕ → ℕ → ℕ → Drawing → Judged
+acceptedAs p v scale s = record { given = record { refusal = 0; ports = p; layers = v; scale = scale }; drawing = s }

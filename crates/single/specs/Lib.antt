@@ -3,4 +3,5 @@ pub mod Columns
 pub mod Plan
 pub mod Masks
 pub mod Single
+pub mod Before
 pub mod Drawing

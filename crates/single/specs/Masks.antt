@@ -1,14 +1,15 @@
 -- Which bits of the beam mask a report reads.
 use mathlib.Core.List.{List, [], _∷_, map}
-use Prim.Native.Nat.{ℕ, _+_, _*_}
+use Prim.Native.Nat.{ℕ, _+_, _-_, _*_, _%_}
 use lib.Dec.{eqb}
 use Rattle.ground.specs.Cases.{_⇒_∣_}
 use Rattle.settings.specs.declared.Beam.{Beam}
-use Rattle.settings.specs.Settings.{twoPorts, down}
+use Rattle.settings.specs.Settings.{twoPorts, across, down}
+use Rattle.settings.specs.Ranges.{beam}
 use Rattle.report.specs.declared.Report.{Report}
-use Rattle.report.specs.Beams.{beams}
+use Rattle.report.specs.Beams.{isHalf, beams}
 
--- the bit of the beam (l,m), reduced; a half-length beam of (l,m) stands here as (2·l, m)
+-- the bit of the beam (l,m), reduced
 abbrev pub beamBit : ℕ → Beam → ℕ
 beamBit n2 x = down n2 * x .l + x .m
 
@@ -16,5 +17,14 @@ beamBit n2 x = down n2 * x .l + x .m
 unfoldable pub twoPortBit : Report → ℕ
 twoPortBit r = eqb (r .v) 1 ⇒ r .i2 ∣ 4 + r .i2
 
+-- a half-length beam of (l,m) is read by the bits of three beams: (2·l - 1, m), taken modulo N1·O1 in the first number,
+-- (2·l, m) and (2·l + 1, m); at l = 0 the first is of the last row
+unfoldable pub neighbours : ℕ → ℕ → ℕ → List Beam
+neighbours n1 l m = beam ((2 * l + across n1 - 1) % across n1) m ∷ beam (2 * l) m ∷ beam (2 * l + 1) m ∷ []
+
+-- the beams whose bits are read, above two ports
+abbrev pub beamsRead : Report → List Beam
+beamsRead r = isHalf r ⇒ neighbours (r .n1) (r .i11) (r .i12) ∣ beams r
+
 unfoldable pub bitsRead : Report → List ℕ
-bitsRead r = twoPorts (r .n1) ⇒ twoPortBit r ∷ [] ∣ map (beamBit (r .n2)) (beams r)
+bitsRead r = twoPorts (r .n1) ⇒ twoPortBit r ∷ [] ∣ map (beamBit (r .n2)) (beamsRead r)

@@ -7,6 +7,7 @@ use report::Beams;
 use report::Report;
 use turn::Phase;
 ghost use mathlib.Core.Path.{_≡_};
+ghost use mathlib.Core.Bool.{false};
 ghost use mathlib.Core.List.{[], _∷_};
 ghost use Prim.Native.Nat.{_+_, _*_, _≤_};
 ghost use Rattle.masks.specs.Asks.{Asks};
@@ -16,7 +17,9 @@ ghost use Rattle.report.specs.Beams.{beams, four, said, beamsOf};
 ghost use Rattle.single.specs.Plan.{plan};
 ghost use Rattle.single.specs.Masks.{twoPortBit};
 ghost use Rattle.single.specs.Single.{indices, single};
-ghost use Rattle.single.specs.Drawing.{codesOf, stepOf, drawingOf};
+ghost use Rattle.single.specs.Drawing.{codesOf, stepOf, drawingOf, acceptedAs};
+
+mod half;
 
 // The codes of one to eight layers of whole beams: 512 times the place of a beam, 0 to 3 for B, B', B'', B'''; 256 more where
 // f is added to the second polarisation, and 2 more where half a turn is.
@@ -35,9 +38,6 @@ const SIX: [u16; 8] = [256, 258, 768, 770, 1024, 1026, 0, 0]; // [B; f], [B; f+�
 const SEVEN: [u16; 8] = [256, 258, 768, 1024, 1026, 1536, 1538, 0]; // .., [B'; f], [B''; 0], [B''; ½], [B'''; 0], [B'''; ½]
 
 const EIGHT: [u16; 8] = [256, 258, 768, 770, 1024, 1026, 1536, 1538]; // the same, with [B'; f+½] after [B'; f]
-
-// Those of half-length beams: half a turn is added to quarters 2 and 4, 3 and 4, 2 and 3.
-const HALVES: [u16; 8] = [256, 266, 268, 262, 0, 0, 0, 0];
 
 // The codes of v layers of whole beams.
 fn codes_of(v: u32) -> [u16; 8]
@@ -98,27 +98,14 @@ fn steps_of(r: Report, b: Beams) -> [u32; 4]
     [first, second, third, fourth]
 }
 
-// What is to be written of a report.
+// What is to be written of a report with whole beams.
 fn drawing_of(r: Report, b: Beams) -> Drawing
-    requires { ⌜ InRange r × (b ≡ said r 0) ⌝ }
+    requires { ⌜ InRange r × (b ≡ said r 0) × (b .half ≡ false) ⌝ }
     ensures { λ s. ⌜ s ≡ drawingOf r ⌝ }
 {
     let v = r.v;
     let f = Phase::quarters(b.n);
     let steps = steps_of(r, b);
-    if b.half {
-        let t = Phase::eighths(r.i13);
-        let both = f.add(t);
-        return Drawing {
-            v: v,
-            pairs: 2,
-            rows: r.n1 / 2,
-            columns: r.n2,
-            steps: steps,
-            co: [0, t.parts, f.parts, both.parts, 0, 0, 0, 0],
-            codes: HALVES,
-        };
-    }
     let codes = codes_of(r.v);
     Drawing {
         v: v,
@@ -139,9 +126,9 @@ fn two_port_bit(r: Report) -> u32
     if r.v == 1 { r.i2 } else { 4 + r.i2 }
 }
 
-// What the report needs of the masks and the buffer. Two ports have one bit.
+// What a report that has no half-length beams needs of the masks and the buffer. Two ports have one bit.
 fn needs_of(r: Report, b: Beams) -> Needs
-    requires { ⌜ b ≡ beamsOf r ⌝ }
+    requires { ⌜ (b ≡ beamsOf r) × (b .half ≡ false) ⌝ }
     ensures { λ x. ⌜ Asks single r indices x ⌝ }
 {
     if b.refusal != 0 {
@@ -184,25 +171,35 @@ fn needs_of(r: Report, b: Beams) -> Needs
     }
 }
 
+// A report that is accepted, and what is to be written of it.
+fn accepted(r: Report, b: Beams, entries: u32, drawing: Drawing) -> Judged
+    ensures { λ c. ⌜ c ≡ acceptedAs (b .ports) (r .v) entries drawing ⌝ }
+{
+    Judged {
+        given: Record {
+            refusal: 0,
+            ports: b.ports,
+            layers: r.v,
+            scale: entries,
+        },
+        drawing: drawing,
+    }
+}
+
 // Judges a report by the refusals 1 to 11: the first that applies is given, and otherwise what is to be written. `room` is the
 // number of entries for which the lent buffer has room.
 pub fn judge(r: Report, mask: &[u8], ranks: u8, room: usize) -> Judged
     ensures { λ c. ⌜ c ≡ judgedBy (planned (plan r)) (drawingOf r) (refusal single (asked r (now (mask .entry)) ranks room)) ⌝ }
 {
     let b = report::beams_of(r);
+    if b.half {
+        return half::judge(r, b, mask, ranks, room);
+    }
     let x = needs_of(r, b);
     let k = masks::admit(x, mask, ranks, room);
     if k != 0 {
         return plan::refuse(k);
     }
     let drawing = drawing_of(r, b);
-    Judged {
-        given: Record {
-            refusal: 0,
-            ports: b.ports,
-            layers: r.v,
-            scale: x.entries,
-        },
-        drawing: drawing,
-    }
+    accepted(r, b, x.entries, drawing)
 }

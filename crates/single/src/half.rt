@@ -1,0 +1,91 @@
+// Reports with half-length beams: three and four layers of 16 ports or more.
+use masks::Needs;
+use plan::Drawing;
+use plan::Judged;
+use report::Beams;
+use report::Report;
+use turn::Phase;
+ghost use mathlib.Core.Path.{_≡_};
+ghost use mathlib.Core.Bool.{true};
+ghost use Prim.Native.Nat.{_+_, _-_, _%_, _<_};
+ghost use Rattle.masks.specs.Admitted.{ofThree};
+ghost use Rattle.masks.specs.Asks.{Asks};
+ghost use Rattle.plan.specs.Answer.{planned, asked, refusal, judgedBy};
+ghost use Rattle.report.specs.Rules.{InRange};
+ghost use Rattle.report.specs.Beams.{said, beamsOf};
+ghost use Rattle.single.specs.Plan.{plan};
+ghost use Rattle.single.specs.Single.{indices, single};
+ghost use Rattle.single.specs.Drawing.{drawingOf};
+
+// The codes of their layers: half a turn is added to quarters 2 and 4, 3 and 4, 2 and 3.
+const HALVES: [u16; 8] = [256, 266, 268, 262, 0, 0, 0, 0];
+
+// What is to be written of such a report.
+fn drawing_of(r: Report, b: Beams) -> Drawing
+    requires { ⌜ InRange r × (b ≡ said r 0) × (b .half ≡ true) ⌝ }
+    ensures { λ s. ⌜ s ≡ drawingOf r ⌝ }
+{
+    let f = Phase::quarters(b.n);
+    let t = Phase::eighths(r.i13);
+    let both = f.add(t);
+    let steps = crate::steps_of(r, b);
+    let v = r.v;
+    Drawing {
+        v: v,
+        pairs: 2,
+        rows: r.n1 / 2,
+        columns: r.n2,
+        steps: steps,
+        co: [0, t.parts, f.parts, both.parts, 0, 0, 0, 0],
+        codes: HALVES,
+    }
+}
+
+// The row of beams before row l, of so many: before row 0 stands the last.
+fn row_before(l: u32, across: u32) -> u32
+    requires { ⌜ l < across ⌝ }
+    ensures { λ k. ⌜ k ≡ (l + across - 1) % across ⌝ }
+{
+    if l == 0 {
+        return across - 1;
+    }
+    l - 1
+}
+
+// What such a report needs of the masks and the buffer: the bits of its beam and of those in the rows before and after it.
+fn needs_of(r: Report, b: Beams) -> Needs
+    requires { ⌜ (b ≡ beamsOf r) × (b .half ≡ true) ⌝ }
+    ensures { λ x. ⌜ Asks single r indices (ofThree x) ⌝ }
+{
+    let l = b.l;
+    let m = b.m;
+    let row = l[0];
+    let column = m[0];
+    let before = row_before(row, b.across);
+    let after = row + 1;
+    let entries = r.v * b.ports;
+    Needs {
+        refusal: 0,
+        bytes: b.bytes,
+        v: r.v,
+        entries: entries,
+        count: 3,
+        width: b.down,
+        l: [before, row, after, 0],
+        m: [column, column, column, 0],
+    }
+}
+
+// Judges such a report.
+pub fn judge(r: Report, b: Beams, mask: &[u8], ranks: u8, room: usize) -> Judged
+    requires { ⌜ (b ≡ beamsOf r) × (b .half ≡ true) ⌝ }
+    ensures { λ c. ⌜ c ≡ judgedBy (planned (plan r)) (drawingOf r) (refusal single (asked r (now (mask .entry)) ranks room)) ⌝ }
+{
+    let x = needs_of(r, b);
+    let k = masks::admit_three(x, mask, ranks, room);
+    if k != 0 {
+        return plan::refuse(k);
+    }
+    let drawing = drawing_of(r, b);
+    crate::accepted(r, b, x.entries, drawing)
+}
