@@ -1,7 +1,7 @@
 -- The number that is given, case by case in the order of the tests.
 use mathlib.Core.Path.{_≡_, sym}
 use mathlib.Core.Logic.{_≢_}
-use mathlib.Core.Bool.{not}
+use mathlib.Core.Bool.{Bool, not}
 use mathlib.Core.List.{List}
 use Prim.Native.Nat.{ℕ}
 use lib.Dec.{eqb, ltb}
@@ -11,7 +11,8 @@ use Rattle.ground.specs.Cases.{_⇒_∣_}
 use Rattle.ground.proofs.Booleans.{either}
 use Rattle.plan.specs.Masks.{barred, rankBarred}
 use Rattle.masks.specs.declared.Needs.{Needs}
-use Rattle.masks.specs.Admitted.{bitsOf, beforeBits, admitted}
+use Rattle.masks.specs.Admitted.{bitsOf, beforeBits, upToFirst, admitted}
+use Rattle.masks.proofs.Bits.{zeroAt, zeroFrom, from-first}
 
 -- none of 1 to 4 is given
 pub record Passed (x : Needs) (mask : List ℕ) : Type 0 where
@@ -47,12 +48,24 @@ module _ (x : Needs) (mask : List ℕ) (ranks room : ℕ) where
       rw (ne-eqb _ 1 (p .not-one), ne-eqb _ 2 (p .not-two), eq-eqb _ _ (p .long), ne-eqb _ 4 (p .not-four))
       (either (rankBarred ranks (x .v)) (λ e. rw e) (λ e. rw e))
 
-  -- a number before the bits is given, and past these the bits are left and the room
-  pub gives-early : {k : ℕ} → k ≡ beforeBits x (length mask) ranks → k ≢ 0 → k ≡ admitted x mask ranks room
-  unfolding admitted
-  gives-early e h = rw (sym e, ne-eqb _ 0 h)
+  -- one of the bits from that of beam i on is zero
+  abbrev pub zeroBits : ℕ → Bool
+  zeroBits i = zeroFrom mask (x .width) (x .l) (x .m) i (x .count)
 
-  pub early-passed : {k : ℕ} → k ≡ beforeBits x (length mask) ranks → k ≡ 0 → admitted x mask ranks room
-      ≡ (barred mask (bitsOf (x .count) (x .width) (x .l) (x .m)) ⇒ 10 ∣ ltb room (x .entries) ⇒ 11 ∣ 0)
-  unfolding admitted
-  early-passed e z = rw (sym e, z)
+  -- the number that is given up to the first bit, and then the other bits and the room
+  by-first : admitted x mask ranks room
+      ≡ (not (eqb (upToFirst x mask ranks) 0) ⇒ upToFirst x mask ranks
+      ∣ zeroBits 1 ⇒ 10 ∣ ltb room (x .entries) ⇒ 11 ∣ 0)
+  unfolding admitted upToFirst
+  by-first =
+      let zero = zeroAt mask (x .width) (x .l) (x .m) 0 in
+      either (eqb (beforeBits x (length mask) ranks) 0)
+      (λ e. rw (e, from-first mask (x .width) (x .l) (x .m) (x .count)) (either zero (λ z. rw z) (λ z. rw z)))
+      (λ e. rw (e, e))
+
+  pub gives-early : {k : ℕ} → k ≡ upToFirst x mask ranks → k ≢ 0 → k ≡ admitted x mask ranks room
+  gives-early e h = rw (by-first, sym e, ne-eqb _ 0 h)
+
+  pub first-passed : {k : ℕ} → k ≡ upToFirst x mask ranks → k ≡ 0
+      → admitted x mask ranks room ≡ (zeroBits 1 ⇒ 10 ∣ ltb room (x .entries) ⇒ 11 ∣ 0)
+  first-passed e z = rw (by-first, sym e, z)

@@ -5,7 +5,7 @@ use Prim.Native.Nat.{ℕ, _+_, _*_}
 use lib.Dec.{eqb, ltb}
 use lib.ListN.{length, getD, take, drop}
 use Rattle.ground.specs.Cases.{_⇒_∣_}
-use Rattle.plan.specs.Masks.{barred, rankBarred}
+use Rattle.plan.specs.Masks.{isZero, barred, rankBarred}
 use Rattle.masks.specs.declared.Needs.{Needs}
 
 -- the bits of one to four beams, in a mask of so many bits for each l
@@ -22,6 +22,13 @@ beforeBits x bytes ranks =
     ∣ eqb (x .refusal) 4 ⇒ 4
     ∣ rankBarred ranks (x .v) ⇒ 5
     ∣ x .refusal
+
+-- and up to the bit of the first beam
+unfoldable pub upToFirst : Needs → List ℕ → ℕ → ℕ
+upToFirst x mask ranks =
+    not (eqb (beforeBits x (length mask) ranks) 0) ⇒ beforeBits x (length mask) ranks
+    ∣ isZero mask (x .width * getD (x .l) 0 0 + getD (x .m) 0 0) ⇒ 10
+    ∣ 0
 
 -- the number of the refusal, or 0
 unfoldable pub admitted : Needs → List ℕ → ℕ → ℕ → ℕ

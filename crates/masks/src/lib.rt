@@ -5,7 +5,7 @@ ghost use lib.Dec.{ltb};
 ghost use lib.ListN.{drop};
 ghost use Rattle.ground.specs.Cases.{_⇒_∣_};
 ghost use Rattle.plan.specs.Masks.{isZero, barred, rankBarred};
-ghost use Rattle.masks.specs.Admitted.{bitsOf, beforeBits, admitted, upToTwo, ofThree};
+ghost use Rattle.masks.specs.Admitted.{bitsOf, beforeBits, upToFirst, admitted, upToTwo, ofThree};
 
 // What a report asks for: the first of its codebook's own refusals that applies, or 0; the bytes of the beam mask; its
 // layers; the entries v·P of its precoder; and how many beams the mask is asked for, one to four, how many bits it has for
@@ -96,10 +96,9 @@ fn before_bits(x: Needs, bytes: usize, ranks: u8) -> u32
     x.refusal
 }
 
-// The first refusal that applies to a report, or 0: 3 where the beam mask has not the bytes needed, 5 where the rank is
-// barred, 10 where a bit that is read is zero and 11 where there is no room for its entries, among the codebook's own.
-pub fn admit(x: Needs, mask: &[u8], ranks: u8, room: usize) -> u32
-    ensures { λ k. ⌜ k ≡ admitted x (now (mask .entry)) ranks room ⌝ }
+// The first refusal that applies, up to the bit of the first beam, or 0.
+fn up_to_first(x: Needs, mask: &[u8], ranks: u8) -> u32
+    ensures { λ k. ⌜ k ≡ upToFirst x (now (mask .entry)) ranks ⌝ }
 {
     let k = before_bits(x, mask.len(), ranks);
     if k != 0 {
@@ -108,11 +107,26 @@ pub fn admit(x: Needs, mask: &[u8], ranks: u8, room: usize) -> u32
     let l = x.l;
     let m = x.m;
     if is_zero(mask, x.width, l[0], m[0]) {
-        return 10;
+        10
+    } else {
+        0
+    }
+}
+
+// The first refusal that applies to a report, or 0: 3 where the beam mask has not the bytes needed, 5 where the rank is
+// barred, 10 where a bit that is read is zero and 11 where there is no room for its entries, among the codebook's own.
+pub fn admit(x: Needs, mask: &[u8], ranks: u8, room: usize) -> u32
+    ensures { λ k. ⌜ k ≡ admitted x (now (mask .entry)) ranks room ⌝ }
+{
+    let k = up_to_first(x, mask, ranks);
+    if k != 0 {
+        return k;
     }
     if x.count < 2 {
         return short_of(x.entries, room);
     }
+    let l = x.l;
+    let m = x.m;
     if later_zero(mask, x.count, x.width, l, m) {
         return 10;
     }
@@ -124,18 +138,15 @@ pub fn admit(x: Needs, mask: &[u8], ranks: u8, room: usize) -> u32
 pub fn admit_two(x: Needs, mask: &[u8], ranks: u8, room: usize) -> u32
     ensures { λ k. ⌜ k ≡ admitted (upToTwo x) (now (mask .entry)) ranks room ⌝ }
 {
-    let k = before_bits(x, mask.len(), ranks);
+    let k = up_to_first(x, mask, ranks);
     if k != 0 {
         return k;
-    }
-    let l = x.l;
-    let m = x.m;
-    if is_zero(mask, x.width, l[0], m[0]) {
-        return 10;
     }
     if x.count < 2 {
         return short_of(x.entries, room);
     }
+    let l = x.l;
+    let m = x.m;
     if is_zero(mask, x.width, l[1], m[1]) {
         return 10;
     }
@@ -146,15 +157,12 @@ pub fn admit_two(x: Needs, mask: &[u8], ranks: u8, room: usize) -> u32
 pub fn admit_three(x: Needs, mask: &[u8], ranks: u8, room: usize) -> u32
     ensures { λ k. ⌜ k ≡ admitted (ofThree x) (now (mask .entry)) ranks room ⌝ }
 {
-    let k = before_bits(x, mask.len(), ranks);
+    let k = up_to_first(x, mask, ranks);
     if k != 0 {
         return k;
     }
     let l = x.l;
     let m = x.m;
-    if is_zero(mask, x.width, l[0], m[0]) {
-        return 10;
-    }
     if is_zero(mask, x.width, l[1], m[1]) {
         return 10;
     }

@@ -1,6 +1,6 @@
--- The demands, the worked reports, what has moved, and that every call has one outcome.
+-- The demands, the worked reports, what has changed, and that every call has one outcome.
 pub mod Unique
 pub mod Demands
 pub mod Worked
 pub mod Frauds
-pub mod Moved
+pub mod Changed

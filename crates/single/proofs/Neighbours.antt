@@ -4,7 +4,7 @@ use mathlib.Core.Logic.{_≢_}
 use mathlib.Core.Bool.{true, false, or-true}
 use mathlib.Core.List.{List, [], _∷_, map}
 use Prim.Native.Nat.{ℕ, zero, suc, _+_, _-_, _*_, _/_, _%_, _<_, _≤_}
-use native.Mathlib.Nat.{mod-lt, mod-eq-of-lt, mod-self, add-mod-right, mul-comm}
+use native.Mathlib.Nat.{mod-lt, mod-eq-of-lt, add-mod-right, mul-comm}
 use native.Mathlib.Omega.{arith}
 use lib.Arith.{digits-div, digits-mod, mod-mul}
 use lib.ListN.{getD}
@@ -15,7 +15,7 @@ use Rattle.ground.proofs.Members.{three-once}
 use Rattle.settings.specs.declared.Beam.{Beam}
 use Rattle.settings.specs.Settings.{ports, twoPorts, o1, o2, across, down}
 use Rattle.settings.specs.Ranges.{beam, modeTwo, halvesI11, i11Values}
-use Rattle.settings.proofs.Known.{known, one-by-one}
+use Rattle.settings.proofs.Known.{one-by-one}
 use Rattle.settings.proofs.Ranked.{i12-few}
 use Rattle.report.specs.declared.Report.{Report}
 use Rattle.report.specs.Rules.{InRange}
@@ -131,7 +131,7 @@ module _ (r : Report) (h : InRange r) (half : isHalf r ≡ true) where
   neighbours-within (suc (suc zero)) = record { l = above-within; m = column-within }
   neighbours-within (suc (suc (suc i))) = record { l = rows-some; m = omega (arith, column-within) }
 
-  -- the bits as the standard prints them: a modulo N1·O1·N2·O2 in the first, to whose 2·l - 1 here N1·O1 is added
+  -- the bits as the standard prints them, the first modulo N1·O1·N2·O2; to its 2·l - 1, which may be below 0, N1·O1 is added
   pub as-printed : bitsRead r
       ≡ ((d * (2 * r .i11 + w - 1) + r .i12) % (w * d)) ∷ (d * (2 * r .i11) + r .i12) ∷ (d * (2 * r .i11 + 1) + r .i12) ∷ []
   unfolding neighbours

@@ -21,7 +21,7 @@ abbrev pub before : Codebook Report
 before = reading ownBits
 
 -- the refusal of a report is another than it was: it is 10, it was none or 11, and the beams have half their length
-pub record Moved (r : Report) (number numberBefore : ℕ) : Type 0 where
+pub record BarredSince (r : Report) (number numberBefore : ℕ) : Type 0 where
   pub ten : number ≡ 10
   pub none-or-eleven : T (among numberBefore (0 ∷ 11 ∷ []))
   pub half-length : isHalf r ≡ true

@@ -18,7 +18,7 @@ unfoldable pub twoPortBit : Report → ℕ
 twoPortBit r = eqb (r .v) 1 ⇒ r .i2 ∣ 4 + r .i2
 
 -- a half-length beam of (l,m) is read by the bits of three beams: (2·l - 1, m), taken modulo N1·O1 in the first number,
--- (2·l, m) and (2·l + 1, m); at l = 0 the first is of the last row
+-- (2·l, m) and (2·l + 1, m); at l = 0 the first is of the last row. N1·O1 is added, as 2·l - 1 may be below 0.
 unfoldable pub neighbours : ℕ → ℕ → ℕ → List Beam
 neighbours n1 l m = beam ((2 * l + across n1 - 1) % across n1) m ∷ beam (2 * l) m ∷ beam (2 * l + 1) m ∷ []
 

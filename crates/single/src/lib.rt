@@ -8,7 +8,6 @@ use report::Report;
 use turn::Phase;
 ghost use mathlib.Core.Path.{_≡_};
 ghost use mathlib.Core.Bool.{false};
-ghost use mathlib.Core.List.{[], _∷_};
 ghost use Prim.Native.Nat.{_+_, _*_, _≤_};
 ghost use Rattle.masks.specs.Asks.{Asks};
 ghost use Rattle.plan.specs.Answer.{planned, asked, refusal, judgedBy};

@@ -6,66 +6,55 @@ use lib.Dec.{ltb}
 use denote.Ref.{now}
 use borrow.Author.Needs.{needs}
 use Rattle.ground.specs.Cases.{_⇒_∣_}
-use Rattle.masks.specs.Admitted.{beforeBits, admitted, ofThree}
-use Rattle.masks.proofs.Bits.{zeroFrom, from-first, from-second, from-third, none-past}
-use Rattle.masks.proofs.Given.{gives-early, early-passed}
+use Rattle.masks.specs.Admitted.{beforeBits, upToFirst, admitted, ofThree}
+use Rattle.masks.proofs.Bits.{from-second, from-third, none-past}
+use Rattle.masks.proofs.Given.{zeroBits, gives-early, first-passed}
 use Rattle.masks.proofs.admit_three.Statement.{statement}
 use Rattle.masks.proofs.admit_three.Tie as tie
 
--- past the first test the bits are left, from that of beam i on, and the room
+returns : tie.Need-returns
+unfolding beforeBits upToFirst
+returns c =
+    let a = c .before .before .before .args in
+    gives-early (ofThree (a .x)) (now (a .mask)) (a .ranks) (a .room) (c .before .up-to-first .ensures) (c .if1 .taken)
+
+-- the bits from that of beam i on are left and the room
 abbrev Left : tie.Else1 → ℕ → Type 0
 Left c i =
     let a = c .before .before .before .args in
-    let x = a .x in
-    admitted (ofThree x) (now (a .mask)) (a .ranks) (a .room)
-    ≡ (zeroFrom (now (a .mask)) (x .width) (x .l) (x .m) i 3 ⇒ 10 ∣ ltb (a .room) (x .entries) ⇒ 11 ∣ 0)
+    admitted (ofThree (a .x)) (now (a .mask)) (a .ranks) (a .room)
+    ≡ (zeroBits (ofThree (a .x)) (now (a .mask)) (a .ranks) (a .room) i ⇒ 10 ∣ ltb (a .room) (a .x .entries) ⇒ 11 ∣ 0)
 
-past-one : (c : tie.Else1) → Left c 0
-unfolding beforeBits
-past-one c =
-    let a = c .before .before .before .args in
-    early-passed (ofThree (a .x)) (now (a .mask)) (a .ranks) (a .room) (c .before .before-bits .ensures) (c .if1 .left)
-
--- and the first bit is not zero, nor the second
-past-first : (c : tie.Else2) → Left (c .before .before .before .before) 1
+-- past the first bit, and past the second
+past-first : (c : tie.Else1) → Left c 1
+unfolding beforeBits upToFirst
 past-first c =
-    past-one (c .before .before .before .before)
-    ∙ rw (from-first _ _ _ _ 3, sym (c .before .is-zero .ensures) ∙ c .if2 .left)
-
-past-second : (c : tie.Else3) → Left (c .before .before .before .before .before .before) 2
-past-second c =
-    past-first (c .before .before)
-    ∙ rw (from-second _ _ _ _ 3 (omega arith), sym (c .before .is-zero2 .ensures) ∙ c .if3 .left)
-
-returns : tie.Need-returns
-unfolding beforeBits
-returns c =
     let a = c .before .before .before .args in
-    gives-early (ofThree (a .x)) (now (a .mask)) (a .ranks) (a .room) (c .before .before-bits .ensures) (c .if1 .taken)
+    first-passed (ofThree (a .x)) (now (a .mask)) (a .ranks) (a .room) (c .before .up-to-first .ensures) (c .if1 .left)
+
+past-second : (c : tie.Else2) → Left (c .before .before .before .before) 2
+past-second c =
+    past-first (c .before .before .before .before)
+    ∙ rw (from-second _ _ _ _ 3 (omega arith), sym (c .before .is-zero .ensures) ∙ c .if2 .left)
 
 returns-2 : tie.Need-returns-2
 returns-2 c =
-    sym (past-one (c .before .before .before .before)
-    ∙ rw (from-first _ _ _ _ 3, sym (c .before .is-zero .ensures) ∙ c .if2 .taken))
+    sym (past-first (c .before .before .before .before)
+    ∙ rw (from-second _ _ _ _ 3 (omega arith), sym (c .before .is-zero .ensures) ∙ c .if2 .taken))
 
 returns-3 : tie.Need-returns-3
 returns-3 c =
-    sym (past-first (c .before .before)
-    ∙ rw (from-second _ _ _ _ 3 (omega arith), sym (c .before .is-zero2 .ensures) ∙ c .if3 .taken))
+    sym (past-second (c .before .before)
+    ∙ rw (from-third _ _ _ _ 3 (omega arith), sym (c .before .is-zero2 .ensures) ∙ c .if3 .taken))
 
 returns-4 : tie.Need-returns-4
 returns-4 c =
-    sym (past-second (c .before .before)
-    ∙ rw (from-third _ _ _ _ 3 (omega arith), sym (c .before .is-zero3 .ensures) ∙ c .if4 .taken))
-
-returns-5 : tie.Need-returns-5
-returns-5 c =
     let e = c .before in
     c .short-of .ensures
     ∙ sym (past-second (e .before .before)
     ∙ rw (
       from-third _ _ _ _ 3 (omega arith),
-      sym (e .before .is-zero3 .ensures) ∙ e .if4 .left,
+      sym (e .before .is-zero2 .ensures) ∙ e .if3 .left,
       none-past _ _ _ _ 2 3 (omega arith),
     ))
 
@@ -83,9 +72,5 @@ admit-three-spec =
     (λ c. search needs)
     (λ c κs. search needs)
     returns-3
-    (λ c. search needs)
-    (λ c. search needs)
     (λ c κs. search needs)
-    returns-4
-    (λ c κs. search needs)
-    returns-5)
+    returns-4)

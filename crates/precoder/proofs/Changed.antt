@@ -1,4 +1,4 @@
--- What the three bits of a half-length beam moved: a refusal is what it was before they were read, or it is 10.
+-- What the three bits of a half-length beam changed: a refusal is what it was before they were read, or it is 10.
 use mathlib.Core.Path.{_≡_, refl, sym, ap, _∙_, subst}
 use mathlib.Core.Logic.{_≢_, _⊎_, inl, inr}
 use mathlib.Core.Bool.{Bool, true, false, cond, _||_}
@@ -24,7 +24,7 @@ use Rattle.plan.proofs.Worked.{onesBut}
 use Rattle.single.specs.Masks.{neighbours, bitsRead}
 use Rattle.single.specs.Plan.{plan}
 use Rattle.single.specs.Single.{order, reading, single}
-use Rattle.single.specs.Before.{ownBits, before, Moved}
+use Rattle.single.specs.Before.{ownBits, before, BarredSince}
 use Rattle.single.proofs.Neighbours.{more-ports, half-beam, half-bits}
 use Rattle.precoder.proofs.Worked.{defined}
 
@@ -59,15 +59,15 @@ half-own r h half mask e =
 abbrev lateBy : Bool → Bool → ℕ
 lateBy bits room = cond bits 10 (cond room 11 0)
 
--- more bits that may be zero move 11 and none to 10, and nothing else
-late-moved : (r : Report) (bits bits′ room : Bool) → (bits′ ≡ true → bits ≡ true) → isHalf r ≡ true
-    → (lateBy bits room ≡ lateBy bits′ room) ⊎ Moved r (lateBy bits room) (lateBy bits′ room)
+-- more bits that may be zero make 10 of none and of 11, and change nothing else
+late-changed : (r : Report) (bits bits′ room : Bool) → (bits′ ≡ true → bits ≡ true) → isHalf r ≡ true
+    → (lateBy bits room ≡ lateBy bits′ room) ⊎ BarredSince r (lateBy bits room) (lateBy bits′ room)
 unfolding among
-late-moved r true true room h half = inl refl
-late-moved r true false true h half = inr (record { ten = refl; none-or-eleven = tt; half-length = half })
-late-moved r true false false h half = inr (record { ten = refl; none-or-eleven = tt; half-length = half })
-late-moved r false true room h half = absurd (subst T (sym (h refl)) tt)
-late-moved r false false room h half = inl refl
+late-changed r true true room h half = inl refl
+late-changed r true false true h half = inr (record { ten = refl; none-or-eleven = tt; half-length = half })
+late-changed r true false false h half = inr (record { ten = refl; none-or-eleven = tt; half-length = half })
+late-changed r false true room h half = absurd (subst T (sym (h refl)) tt)
+late-changed r false false room h half = inl refl
 
 module _ (q : Request Report) where
   abbrev upToNine : List ℕ
@@ -103,26 +103,26 @@ module _ (q : Request Report) where
       ∙ early-same
       ∙ sym (first-stop (test before q) upToNine (10 ∷ 11 ∷ []) (λ e. given (early-same ∙ e)))
 
-  -- and with whole beams nothing has moved
-  whole-unmoved : isHalf (q .report) ≡ false → refusal single q ≡ refusal before q
+  -- and with whole beams nothing has changed
+  whole-unchanged : isHalf (q .report) ≡ false → refusal single q ≡ refusal before q
   unfolding refusal test early
-  whole-unmoved whole =
+  whole-unchanged whole =
       first-cong (test single q) (test before q) (λ k. rw (whole-same (q .report) whole)) order
 
   -- A refusal is what it was; or it is 10 and was none or 11, and the beams have half their length.
-  pub what-moved : (refusal single q ≡ refusal before q) ⊎ Moved (q .report) (refusal single q) (refusal before q)
-  what-moved =
+  pub what-changed : (refusal single q ≡ refusal before q) ⊎ BarredSince (q .report) (refusal single q) (refusal before q)
+  what-changed =
       either (isHalf (q .report))
       (λ half.
       either (eqb (first (test single q) upToNine) 0)
       (λ e.
       let z = eqb-true (first (test single q) upToNine) 0 e in
       rw (by-bits bitsRead z, by-bits ownBits (sym early-same ∙ z))
-      (late-moved (q .report) _ _ shortOf (half-own (q .report) (passed-in-range z) half (q .mask)) half))
+      (late-changed (q .report) _ _ shortOf (half-own (q .report) (passed-in-range z) half (q .mask)) half))
       (λ e. inl (stopped (eqb-false (first (test single q) upToNine) 0 e))))
-      (λ whole. inl (whole-unmoved whole))
+      (λ whole. inl (whole-unchanged whole))
 
--- ---- calls
+-- ---- calls: of `phases` or of `weights`, with one matrix for both codebooks, since their plans are the same
 
 module _ (r : Report) (mask : List ℕ) (ranks room : ℕ) {A : Type 0} {answer lent : List A} where
   -- A report that is accepted was accepted before: the same record was given, and the same buffer left.
@@ -130,9 +130,9 @@ module _ (r : Report) (mask : List ℕ) (ranks room : ℕ) {A : Type 0} {answer 
       → given .refusal ≡ 0 → Called before r mask ranks room answer lent given left
   accepted-as-before call e =
       let zero = sym (number-given refl call) ∙ e in
-      elim (what-moved (asked r mask ranks room)) [
+      elim (what-changed (asked r mask ranks room)) [
         | inl same ↦ rw (← same) call
-        | inr moved ↦ absurd (let ten = moved .ten in omega arith)
+        | inr since ↦ absurd (let ten = since .ten in omega arith)
       ]
 
   -- One that was accepted before and is refused is refused by 10, and has half-length beams.
@@ -141,13 +141,13 @@ module _ (r : Report) (mask : List ℕ) (ranks room : ℕ) {A : Type 0} {answer 
       → Called single r mask ranks room answer lent given′ left′ → given′ .refusal ≢ 0
       → (given′ .refusal ≡ 10) × (isHalf r ≡ true)
   refused-since call e call′ h =
-      elim (what-moved (asked r mask ranks room)) [
+      elim (what-changed (asked r mask ranks room)) [
         | inl same ↦ absurd (h (number-given refl call′ ∙ same ∙ sym (number-given refl call) ∙ e))
-        | inr moved ↦ (number-given refl call′ ∙ moved .ten, moved .half-length)
+        | inr since ↦ (number-given refl call′ ∙ since .ten, since .half-length)
       ]
 
 -- and there is such a report: (8,1) with three layers and i11 = 1, where bit 1 is the only zero
-pub one-moved : let q = asked (asks 8 1 1 3 1 0 0 0) (onesBut 4 1) 255 48 in
+pub one-changed : let q = asked (asks 8 1 1 3 1 0 0 0) (onesBut 4 1) 255 48 in
     (refusal single q ≡ 10) × (refusal before q ≡ 0)
 unfolding defined ownBits
-one-moved = (refl, refl)
+one-changed = (refl, refl)
