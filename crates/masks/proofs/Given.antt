@@ -21,6 +21,10 @@ pub record Passed (x : Needs) (mask : List ℕ) : Type 0 where
   pub long : length mask ≡ x .bytes
   pub not-four : x .refusal ≢ 4
 
+-- one of the bits that are asked for is zero, from that of beam i on
+abbrev pub zeroBits : Needs → List ℕ → ℕ → Bool
+zeroBits x mask i = zeroFrom mask (x .width) (x .l) (x .m) i (x .count)
+
 module _ (x : Needs) (mask : List ℕ) (ranks room : ℕ) where
   pub gives-one : x .refusal ≡ 1 → admitted x mask ranks room ≡ 1
   unfolding beforeBits admitted
@@ -48,14 +52,10 @@ module _ (x : Needs) (mask : List ℕ) (ranks room : ℕ) where
       rw (ne-eqb _ 1 (p .not-one), ne-eqb _ 2 (p .not-two), eq-eqb _ _ (p .long), ne-eqb _ 4 (p .not-four))
       (either (rankBarred ranks (x .v)) (λ e. rw e) (λ e. rw e))
 
-  -- one of the bits from that of beam i on is zero
-  abbrev pub zeroBits : ℕ → Bool
-  zeroBits i = zeroFrom mask (x .width) (x .l) (x .m) i (x .count)
-
   -- the number that is given up to the first bit, and then the other bits and the room
   by-first : admitted x mask ranks room
       ≡ (not (eqb (upToFirst x mask ranks) 0) ⇒ upToFirst x mask ranks
-      ∣ zeroBits 1 ⇒ 10 ∣ ltb room (x .entries) ⇒ 11 ∣ 0)
+      ∣ zeroBits x mask 1 ⇒ 10 ∣ ltb room (x .entries) ⇒ 11 ∣ 0)
   unfolding admitted upToFirst
   by-first =
       let zero = zeroAt mask (x .width) (x .l) (x .m) 0 in
@@ -67,5 +67,5 @@ module _ (x : Needs) (mask : List ℕ) (ranks room : ℕ) where
   gives-early e h = rw (by-first, sym e, ne-eqb _ 0 h)
 
   pub first-passed : {k : ℕ} → k ≡ upToFirst x mask ranks → k ≡ 0
-      → admitted x mask ranks room ≡ (zeroBits 1 ⇒ 10 ∣ ltb room (x .entries) ⇒ 11 ∣ 0)
+      → admitted x mask ranks room ≡ (zeroBits x mask 1 ⇒ 10 ∣ ltb room (x .entries) ⇒ 11 ∣ 0)
   first-passed e z = rw (by-first, sym e, z)

@@ -42,9 +42,9 @@ port-bit r two e = rw (e, eq-eqb (r .n1) 1 two) (ap (λ (n : ℕ). n ∷ []) (om
 
 module _ (r : Report) {b : Beams} (e : b ≡ beamsOf r) where
   -- half-length beams: those of three
-  pub half-bits-asked : b .refusal ≡ 0 → b .half ≡ true → {below : ℕ} → let l = getD (b .l) 0 0 in let m = getD (b .m) 0 0 in
-      below ≡ (l + b .across - 1) % b .across
-      → bitsOf 3 (b .down) (below ∷ l ∷ (l + 1) ∷ 0 ∷ []) (m ∷ m ∷ m ∷ 0 ∷ []) ≡ bitsRead r
+  pub half-bits-asked : b .refusal ≡ 0 → b .half ≡ true → {before : ℕ} → let l = getD (b .l) 0 0 in let m = getD (b .m) 0 0 in
+      before ≡ (l + b .across - 1) % b .across
+      → bitsOf 3 (b .down) (before ∷ l ∷ (l + 1) ∷ 0 ∷ []) (m ∷ m ∷ m ∷ 0 ∷ []) ≡ bitsRead r
   unfolding bitsOf neighbours
   half-bits-asked z t p =
       let (h, s) = said-in-range r e z in

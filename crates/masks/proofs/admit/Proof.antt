@@ -14,7 +14,7 @@ use Rattle.masks.proofs.admit.Tie as tie
 -- past the first bit the others are left and the room
 past-first : (c : tie.Else1) → let a = c .before .before .before .args in
     admitted (a .x) (now (a .mask)) (a .ranks) (a .room)
-    ≡ (zeroBits (a .x) (now (a .mask)) (a .ranks) (a .room) 1 ⇒ 10 ∣ ltb (a .room) (a .x .entries) ⇒ 11 ∣ 0)
+    ≡ (zeroBits (a .x) (now (a .mask)) 1 ⇒ 10 ∣ ltb (a .room) (a .x .entries) ⇒ 11 ∣ 0)
 past-first c = first-passed _ _ _ _ (c .before .up-to-first .ensures) (c .if1 .left)
 
 returns-2 : tie.Need-returns-2

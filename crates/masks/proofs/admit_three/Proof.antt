@@ -23,7 +23,7 @@ abbrev Left : tie.Else1 → ℕ → Type 0
 Left c i =
     let a = c .before .before .before .args in
     admitted (ofThree (a .x)) (now (a .mask)) (a .ranks) (a .room)
-    ≡ (zeroBits (ofThree (a .x)) (now (a .mask)) (a .ranks) (a .room) i ⇒ 10 ∣ ltb (a .room) (a .x .entries) ⇒ 11 ∣ 0)
+    ≡ (zeroBits (ofThree (a .x)) (now (a .mask)) i ⇒ 10 ∣ ltb (a .room) (a .x .entries) ⇒ 11 ∣ 0)
 
 -- past the first bit, and past the second
 past-first : (c : tie.Else1) → Left c 1

@@ -23,7 +23,7 @@ returns c =
 -- past the first bit the others are left and the room
 past-first : (c : tie.Else1) → let a = c .before .before .before .args in
     admitted (upToTwo (a .x)) (now (a .mask)) (a .ranks) (a .room)
-    ≡ (zeroBits (upToTwo (a .x)) (now (a .mask)) (a .ranks) (a .room) 1 ⇒ 10 ∣ ltb (a .room) (a .x .entries) ⇒ 11 ∣ 0)
+    ≡ (zeroBits (upToTwo (a .x)) (now (a .mask)) 1 ⇒ 10 ∣ ltb (a .room) (a .x .entries) ⇒ 11 ∣ 0)
 unfolding beforeBits upToFirst
 past-first c =
     let a = c .before .before .before .args in
