@@ -59,7 +59,7 @@
 // The version of the library. A struct, a parameter or a constant that changes makes the first number another, and every
 // function is linked by a name that ends with it: a program compiled with a header of another major number does not link.
 #define ASPENFLICK_VERSION_MAJOR 1
-#define ASPENFLICK_VERSION_MINOR 2
+#define ASPENFLICK_VERSION_MINOR 3
 #define ASPENFLICK_VERSION_PATCH 0
 
 // The largest sizes: ports, layers, numbers in `out` for phases and for weights, bytes of `beams`.
@@ -85,6 +85,16 @@
 #define ASPENFLICK_BEAM_BARRED 10     // a bit of `beams` that the report reads is zero
 #define ASPENFLICK_NO_ROOM 11         // `out` is too short: v*P bytes are needed, or 2*v*P numbers for weights
 
+// What a step of a log is.
+#define ASPENFLICK_LOG_REPORT 0       // a report
+#define ASPENFLICK_LOG_END 1          // the end, which stands between reports only
+#define ASPENFLICK_LOG_FAULT 2        // a fault: nothing behind it is read
+
+// The faults of a log, of which the first in the order of the bytes is given.
+#define ASPENFLICK_FAULT_ENDS 1       // it ends inside a report; the place is its length
+#define ASPENFLICK_FAULT_PADDED 2     // a number of several bytes whose last byte is zero; the place is that byte's
+#define ASPENFLICK_FAULT_LARGE 3      // a number's fifth byte is above 15; the place is that byte's
+
 // What aspenflick_version gives where the library has the version of this header.
 #define ASPENFLICK_VERSION (10000 * ASPENFLICK_VERSION_MAJOR + 100 * ASPENFLICK_VERSION_MINOR + ASPENFLICK_VERSION_PATCH)
 
@@ -95,6 +105,7 @@
 #define aspenflick_weights aspenflick_weights_1
 #define aspenflick_panel_phases aspenflick_panel_phases_1
 #define aspenflick_panel_weights aspenflick_panel_weights_1
+#define aspenflick_log_next aspenflick_log_next_1
 
 #ifdef __cplusplus
 extern "C" {
@@ -110,6 +121,12 @@ typedef struct { uint32_t refusal, ports, layers, scale; } aspenflick_record;
 // A report of several panels: the setting (Ng,N1,N2), the codebook mode, the rank v, and the indices. Numbers of i14 and i2
 // that are not used are 0.
 typedef struct { uint32_t ng, n1, n2, mode, v, i11, i12, i13, i14[3], i2[3]; } aspenflick_panel_report;
+
+// A step of a log in numbers. kind is 0 for a report, 1 for the end and 2 for a fault. With a fault, fault is 1 where the log
+// ends inside a report, 2 where a number of several bytes has a last byte that is zero and 3 where a number's fifth byte is
+// above 15, and place is that byte's, or the log's length for 1; otherwise both are 0. next is where the next step starts:
+// behind a report, and otherwise where this one did. The report's numbers are 0 unless there is one.
+typedef struct { uint32_t kind, fault; uint64_t place, next; aspenflick_report report; } aspenflick_log_step;
 
 // The version of the library that is linked: 10000*major + 100*minor + patch, as in ASPENFLICK_VERSION.
 uint32_t aspenflick_version(void);
@@ -140,6 +157,14 @@ aspenflick_record aspenflick_panel_phases(aspenflick_panel_report r, const uint8
 // as `aspenflick_weights` does.
 aspenflick_record aspenflick_panel_weights(aspenflick_panel_report r, const uint8_t *beams, size_t beams_len,
                                            uint8_t ranks, int16_t *out, size_t out_len);
+
+// Reads one step of a log of reports: what stands at the place `from`, which is the front, 0, or the `next` of the step
+// before. A log is a plain run of numbers, eight to a report: n1, n2, mode, v, i11, i12, i13, i2. A number is written in
+// groups of seven bits, lowest group first, a byte each, the top bit set when another byte follows; in the fewest bytes, of
+// which there are at most five, for 32 bits. The numbers are not judged: that is for `aspenflick_phases`. A place past the
+// end of the log gives the end. (2,1) with mode 1, v = 1, i11 = 1, i2 = 1 and the rest 0 is 02 01 01 01 01 00 00 01; the
+// number 200 is C8 01.
+aspenflick_log_step aspenflick_log_next(const uint8_t *log, size_t log_len, size_t from);
 
 #ifdef __cplusplus
 }

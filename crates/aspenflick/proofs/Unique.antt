@@ -10,6 +10,7 @@ use Rattle.aspenflick.proofs.aspenflick_phases_1.Reads as phases
 use Rattle.aspenflick.proofs.aspenflick_weights_1.Reads as weights
 use Rattle.aspenflick.proofs.aspenflick_panel_phases_1.Reads as panel-phases
 use Rattle.aspenflick.proofs.aspenflick_panel_weights_1.Reads as panel-weights
+use Rattle.aspenflick.proofs.aspenflick_log_next_1.Reads as log-next
 
 pub aspenflick-version-unique : Unique version.Learnt
 aspenflick-version-unique k a r r′ e e′ p q = p ∙ sym q
@@ -28,3 +29,6 @@ aspenflick-panel-phases-unique k a r r′ e e′ = one-answer
 
 pub aspenflick-panel-weights-unique : UniqueLeft panel-weights.Learnt (λ k e. now (e .1 .1 .1 .0))
 aspenflick-panel-weights-unique k a r r′ e e′ = one-answer
+
+pub aspenflick-log-next-unique : Unique log-next.Learnt
+aspenflick-log-next-unique k a r r′ e e′ p q = p ∙ sym q

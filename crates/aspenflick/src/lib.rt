@@ -54,13 +54,14 @@ ghost use Rattle.settings.specs.Settings.{isSetting, maskBytes};
 ghost use Rattle.plan.specs.Answer.{PhasesLeft, WeightsLeft};
 ghost use Rattle.single.specs.Single.{single};
 ghost use Rattle.multi.specs.Panels.{panels};
+ghost use Rattle.log.specs.Log.{stepAt};
 ghost use Rattle.aspenflick.specs.Version.{version};
 
 // The version of the library. A struct, a parameter or a constant that changes makes the first number another, and every
 // function is linked by a name that ends with it: a program compiled with a header of another major number does not link.
 pub const VERSION_MAJOR: u32 = 1;
 
-pub const VERSION_MINOR: u32 = 2;
+pub const VERSION_MINOR: u32 = 3;
 
 pub const VERSION_PATCH: u32 = 0;
 
@@ -115,6 +116,26 @@ pub const BEAM_BARRED: u32 = 10;
 
 // `out` is too short: v·P bytes are needed, or 2·v·P numbers for weights
 pub const NO_ROOM: u32 = 11;
+
+// What a step of a log is.
+// a report
+pub const LOG_REPORT: u32 = 0;
+
+// the end, which stands between reports only
+pub const LOG_END: u32 = 1;
+
+// a fault: nothing behind it is read
+pub const LOG_FAULT: u32 = 2;
+
+// The faults of a log, of which the first in the order of the bytes is given.
+// it ends inside a report; the place is its length
+pub const FAULT_ENDS: u32 = 1;
+
+// a number of several bytes whose last byte is zero; the place is that byte's
+pub const FAULT_PADDED: u32 = 2;
+
+// a number's fifth byte is above 15; the place is that byte's
+pub const FAULT_LARGE: u32 = 3;
 
 // The version of the library that is linked: 10000·major + 100·minor + patch, as in ASPENFLICK_VERSION.
 #[no_mangle]
@@ -190,4 +211,17 @@ pub extern "C" fn aspenflick_panel_weights_1(
     ensures { λ a. ⌜ WeightsLeft panels r (now (beams .entry)) ranks (now (out .entry)) a (now (out .exit)) ⌝ }
 {
     panels::weights(r, beams, ranks, out)
+}
+
+// Reads one step of a log of reports: what stands at the place `from`, which is the front, 0, or the `next` of the step
+// before. A log is a plain run of numbers, eight to a report: n1, n2, mode, v, i11, i12, i13, i2. A number is written in
+// groups of seven bits, lowest group first, a byte each, the top bit set when another byte follows; in the fewest bytes, of
+// which there are at most five, for 32 bits. The numbers are not judged: that is for `aspenflick_phases`. A place past the
+// end of the log gives the end. (2,1) with mode 1, v = 1, i11 = 1, i2 = 1 and the rest 0 is 02 01 01 01 01 00 00 01; the
+// number 200 is C8 01.
+#[no_mangle]
+pub extern "C" fn aspenflick_log_next_1(log: &[u8], from: usize) -> log::LogStep
+    ensures { λ s. ⌜ s ≡ stepAt (now (log .entry)) from ⌝ }
+{
+    log::step_at(log, from)
 }
