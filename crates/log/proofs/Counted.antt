@@ -40,6 +40,21 @@ module _ (log : List ℕ) (from : ℕ) where
       let past = rw (step-end log from (ltb-false from (length log) t)) at e in
       absurd (omega arith))
 
+  -- where there is no report the reader stays
+  pub no-report-stays : (stepAt log from .kind ≡ 0 → ⊥) → stepAt log from .next ≡ from
+  no-report-stays none =
+      either (ltb from (length log))
+      (λ t.
+      let begins = step-begins log from (ltb-true from (length log) t) in
+      rw begins
+      (takes-by log from
+      (λ (left : ℕ) (got : List ℕ) (at : ℕ) (s : LogStep). (s .kind ≡ 0 → ⊥) → s .next ≡ from)
+      (λ got at some. absurd (some refl))
+      (λ left got at n next s found rest. rest)
+      (λ left got at k p found some. refl)
+      8 [] from (rw begins at none)))
+      (λ t. ap (λ (s : LogStep). s .next) (step-end log from (ltb-false from (length log) t)))
+
 -- so many steps are reports: each took some bytes of the log
 pub record Reported (log : List ℕ) (n : ℕ) : Type 0 where
   pub before : (k : ℕ) → k < n → stepAt log (placeAfter log k) .kind ≡ 0

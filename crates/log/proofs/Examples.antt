@@ -1,0 +1,68 @@
+-- Worked examples: a report, the number 200, and each fault on both sides of its bound.
+use mathlib.Core.Path.{_≡_, refl}
+use mathlib.Core.List.{List, [], _∷_}
+use Prim.Native.Nat.{ℕ}
+use Rattle.ground.specs.Lists.{join}
+use Rattle.report.specs.declared.Report.{Report}
+use Rattle.log.specs.Number.{value, fault, codeIn, code, isPadded, isLarge, scan, numberAt}
+use Rattle.log.specs.Log.{coded, reportStep, endStep, faultStep, after, takes, stepAt}
+
+-- (2,1) with mode 1, one layer, i11 = 1, i2 = 1 and the rest 0
+abbrev pub example : Report
+example = record { n1 = 2; n2 = 1; mode = 1; v = 1; i11 = 1; i12 = 0; i13 = 0; i2 = 1 }
+
+pub example-coded : coded example ≡ 2 ∷ 1 ∷ 1 ∷ 1 ∷ 1 ∷ 0 ∷ 0 ∷ 1 ∷ []
+unfolding join codeIn
+example-coded = refl
+
+pub example-read : stepAt (2 ∷ 1 ∷ 1 ∷ 1 ∷ 1 ∷ 0 ∷ 0 ∷ 1 ∷ []) 0 ≡ reportStep example 8
+unfolding stepAt takes after scan isPadded isLarge
+example-read = refl
+
+pub two-hundred : code 200 ≡ 200 ∷ 1 ∷ []
+unfolding codeIn
+two-hundred = refl
+
+-- ---- numbers
+
+pub zero-alone : numberAt (0 ∷ []) 0 ≡ value 0 1
+unfolding scan isPadded isLarge
+zero-alone = refl
+
+pub second-zero : numberAt (128 ∷ 0 ∷ []) 0 ≡ fault 2 1
+unfolding scan isPadded isLarge
+second-zero = refl
+
+pub fifth-zero : numberAt (128 ∷ 128 ∷ 128 ∷ 128 ∷ 0 ∷ []) 0 ≡ fault 2 4
+unfolding scan isPadded isLarge
+fifth-zero = refl
+
+pub largest : numberAt (255 ∷ 255 ∷ 255 ∷ 255 ∷ 15 ∷ []) 0 ≡ value 4294967295 5
+unfolding scan isPadded isLarge
+largest = refl
+
+pub fifth-above-15 : numberAt (255 ∷ 255 ∷ 255 ∷ 255 ∷ 16 ∷ []) 0 ≡ fault 3 4
+unfolding scan isPadded isLarge
+fifth-above-15 = refl
+
+pub fifth-with-top-bit : numberAt (128 ∷ 128 ∷ 128 ∷ 128 ∷ 128 ∷ []) 0 ≡ fault 3 4
+unfolding scan isPadded isLarge
+fifth-with-top-bit = refl
+
+pub four-continued : numberAt (128 ∷ 128 ∷ 128 ∷ 128 ∷ []) 0 ≡ fault 1 4
+unfolding scan isPadded isLarge
+four-continued = refl
+
+-- ---- logs
+
+pub empty-ends : stepAt [] 0 ≡ endStep 0
+unfolding stepAt
+empty-ends = refl
+
+pub past-the-end : stepAt (2 ∷ []) 7 ≡ endStep 7
+unfolding stepAt
+past-the-end = refl
+
+pub cut-between-numbers : stepAt (2 ∷ 1 ∷ []) 0 ≡ faultStep 1 2 0
+unfolding stepAt takes after scan isPadded isLarge
+cut-between-numbers = refl
