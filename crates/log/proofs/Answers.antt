@@ -3,12 +3,11 @@ use mathlib.Core.Path.{_≡_, refl, sym, ap, _∙_}
 use mathlib.Core.Bool.{true, false≢true}
 use Prim.Native.Nat.{ℕ}
 use native.Mathlib.Omega.{arith}
-use Rattle.log.specs.declared.Fault.{Fault}
-use Rattle.log.specs.declared.Fault.the-variants.{Ends, Padded, Large}
+use Rattle.groups.proofs.Unique.{one-fault}
 use Rattle.log.specs.declared.Answer.{Answer}
 use Rattle.log.specs.declared.Answer.the-variants.{Read, End, Faulty}
 use Rattle.log.specs.declared.LogStep.{LogStep}
-use Rattle.log.specs.Answer.{numberOf, placeOf, isReport, stepOf}
+use Rattle.log.specs.Answer.{isReport, stepOf}
 
 pub report-kind : (a : Answer) (next : ℕ) → isReport a ≡ true → stepOf a next .kind ≡ 0
 report-kind (Read r) next e = refl
@@ -26,17 +25,6 @@ step-next End next = refl
 step-next (Faulty f) next = refl
 
 -- ---- one answer
-
-one-fault : (f g : Fault) → numberOf f ≡ numberOf g → placeOf f ≡ placeOf g → f ≡ g
-one-fault (Ends p) (Ends q) k e = ap Ends e
-one-fault (Padded p) (Padded q) k e = ap Padded e
-one-fault (Large p) (Large q) k e = ap Large e
-one-fault (Ends p) (Padded q) k e = absurd (omega arith)
-one-fault (Ends p) (Large q) k e = absurd (omega arith)
-one-fault (Padded p) (Ends q) k e = absurd (omega arith)
-one-fault (Padded p) (Large q) k e = absurd (omega arith)
-one-fault (Large p) (Ends q) k e = absurd (omega arith)
-one-fault (Large p) (Padded q) k e = absurd (omega arith)
 
 -- of one step, m and n being the places after it
 module _ (m n : ℕ) where

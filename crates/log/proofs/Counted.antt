@@ -11,7 +11,7 @@ use Rattle.ground.proofs.Booleans.{either}
 use Rattle.log.specs.declared.LogStep.{LogStep}
 use Rattle.log.specs.Log.{takes, stepAt}
 use Rattle.log.specs.Answer.{placeAfter}
-use Rattle.log.proofs.Bytes.{scan-bounds}
+use Rattle.groups.proofs.Bytes.{scan-bounds}
 use Rattle.log.proofs.Taking.{step-end, step-begins, takes-by}
 
 -- a report takes a byte for each of its numbers, and ends within the log

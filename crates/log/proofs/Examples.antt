@@ -4,7 +4,7 @@ use mathlib.Core.List.{List, [], _∷_}
 use Prim.Native.Nat.{ℕ}
 use Rattle.ground.specs.Lists.{join}
 use Rattle.report.specs.declared.Report.{Report}
-use Rattle.log.specs.Number.{value, fault, codeIn, code, isPadded, isLarge, scan, numberAt}
+use Rattle.groups.specs.Number.{value, fault, codeIn, code, isPadded, isLarge, scan, numberAt}
 use Rattle.log.specs.Log.{coded, reportStep, endStep, faultStep, after, takes, stepAt}
 
 -- (2,1) with mode 1, one layer, i11 = 1, i2 = 1 and the rest 0

@@ -9,7 +9,8 @@ use Rattle.ground.specs.Lists.{join}
 use Rattle.report.specs.declared.Report.{Report}
 use Rattle.log.specs.declared.LogStep.{LogStep}
 use Rattle.log.specs.Log.{coded, logOf, stepAt}
-use Rattle.log.specs.Relied.{Below, Stands, tells-report, HandsOut, no-more, one-and, AllFit}
+use Rattle.groups.specs.Relied.{Below}
+use Rattle.log.specs.Relied.{Stands, tells-report, HandsOut, no-more, one-and, AllFit}
 use Rattle.log.proofs.Taking.{step-end}
 use Rattle.log.proofs.Told.{behind, tells-step, report-stands, end-past}
 

@@ -15,11 +15,12 @@ use Rattle.report.specs.declared.Report.{Report}
 use Rattle.report.specs.Numbers.{valuesOf, reportOf}
 use Rattle.report.proofs.Numbers.{values-of-eight}
 use Rattle.log.specs.declared.LogStep.{LogStep}
-use Rattle.log.specs.Number.{value, fault, codeIn, code, numberAt}
+use Rattle.groups.specs.Number.{value, fault, codeIn, code, numberAt}
 use Rattle.log.specs.Log.{coded, reportStep, faultStep, after, takes, stepAt}
-use Rattle.log.specs.Relied.{Below, Stands, Shows, Breaks, Tells, tells-report, tells-end, tells-fault}
-use Rattle.log.proofs.Coded.{number-reads, scan-stood, code-some}
-use Rattle.log.proofs.Faults.{scan-begun, begun-scans}
+use Rattle.groups.specs.Relied.{Below, Shows}
+use Rattle.log.specs.Relied.{Stands, Breaks, Tells, tells-report, tells-end, tells-fault}
+use Rattle.groups.proofs.Coded.{number-reads, scan-stood, code-some}
+use Rattle.groups.proofs.Faults.{scan-begun, begun-scans}
 use Rattle.log.proofs.Taking.{step-end, step-begins, takes-fault, takes-by}
 
 below-drop : {bound : ℕ} (xs : List ℕ) (n : ℕ) → Below bound xs → Below bound (drop n xs)

@@ -17,17 +17,9 @@ use Rattle.log.specs.declared.Reader.{Reader}
 use Rattle.log.specs.declared.Taken.{Taken}
 use Rattle.log.specs.Answer.{stepOf, isReport, Starts, Steps, Holds}
 use Rattle.log.proofs.Answers.{one-answer, one-next, kind-report}
-use Rattle.log.proofs.Fault.number.Reads as number
-use Rattle.log.proofs.Fault.place.Reads as place
 use Rattle.log.proofs.taken_at.Reads as taken-at
 use Rattle.log.proofs.reports_in.Reads as reports-in
 use Rattle.log.proofs.step_at.Reads as step-at
-
-pub number-unique : Unique number.Learnt
-number-unique k a r r′ e e′ p q = p ∙ sym q
-
-pub place-unique : Unique place.Learnt
-place-unique k a r r′ e e′ p q = p ∙ sym q
 
 one-taken : {t u : Taken} → stepOf (t .answer) (t .next) ≡ stepOf (u .answer) (u .next) → t ≡ u
 one-taken {t} {u} e = λ i. record {

@@ -13,10 +13,10 @@ use lib.Seq.{take-all, take-nil, drop-drop}
 use borrow.Author.Tests.{ltb-true, ltb-false}
 use Rattle.ground.proofs.Booleans.{either}
 use Rattle.log.specs.declared.LogStep.{LogStep}
-use Rattle.log.specs.Number.{Found, value, fault, isPadded, isLarge, scan, numberAt}
+use Rattle.groups.specs.Number.{Found, value, fault, isPadded, isLarge, scan, numberAt}
 use Rattle.log.specs.Log.{reportStep, endStep, faultStep, after, takes, stepAt}
 use Rattle.log.specs.Relied.{movedBy}
-use Rattle.log.proofs.Bytes.{not-fifth, scan-bounds}
+use Rattle.groups.proofs.Bytes.{not-fifth, scan-bounds}
 use Rattle.log.proofs.Taking.{step-end, step-begins, takes-by}
 
 -- ---- bytes after the last that is looked at

@@ -1,35 +1,16 @@
--- What the calls give: the number and the place of each case of a fault, the step of each case of an answer, and what a
--- reader does.
+-- What the calls give: the step of each case of an answer, what a reader does, and what a whole log holds.
 use mathlib.Core.Path.{_≡_}
 use mathlib.Core.Bool.{Bool, true, false}
 use mathlib.Core.List.{List}
 use Prim.Native.Nat.{ℕ, zero, suc, _<_}
 use denote.Ref.{RefT, now}
-use Rattle.log.specs.declared.Fault.{Fault}
-use Rattle.log.specs.declared.Fault.the-variants.{Ends, Padded, Large}
 use Rattle.log.specs.declared.Answer.{Answer}
 use Rattle.log.specs.declared.Answer.the-variants.{Read, End, Faulty}
 use Rattle.log.specs.declared.Contents.{Contents}
 use Rattle.log.specs.declared.LogStep.{LogStep}
 use Rattle.log.specs.declared.Reader.{Reader}
-use Rattle.log.specs.declared.numbers.Scanned.{Scanned}
-use Rattle.log.specs.declared.numbers.Scanned.the-variants.{Number, Broken}
-use Rattle.log.specs.Number.{Found, value, fault}
+use Rattle.groups.specs.Given.{numberOf, placeOf}
 use Rattle.log.specs.Log.{reportStep, endStep, faultStep, stepAt}
-
-abbrev pub numberOf : Fault → ℕ
-numberOf (Ends p) = 1
-numberOf (Padded p) = 2
-numberOf (Large p) = 3
-
-abbrev pub placeOf : Fault → ℕ
-placeOf (Ends p) = p
-placeOf (Padded p) = p
-placeOf (Large p) = p
-
-abbrev pub foundOf : Scanned → Found
-foundOf (Number n next) = value n next
-foundOf (Broken f) = fault (numberOf f) (placeOf f)
 
 abbrev pub stepOf : Answer → ℕ → LogStep
 stepOf (Read r) next = reportStep r next

@@ -12,13 +12,10 @@ use Rattle.report.specs.Numbers.{valuesOf}
 use Rattle.log.specs.declared.Answer.{Answer}
 use Rattle.log.specs.declared.LogStep.{LogStep}
 use Rattle.log.specs.declared.Reader.{Reader}
-use Rattle.log.specs.Number.{code}
+use Rattle.groups.specs.Number.{code}
+use Rattle.groups.specs.Relied.{Below, Shows}
 use Rattle.log.specs.Log.{coded, reportStep, endStep, faultStep, stepAt}
 use Rattle.log.specs.Answer.{Steps}
-
--- bytes are below 256, and numbers below 2^32
-abbrev pub Below : ℕ → List ℕ → Type 0
-Below bound xs = All (λ (x : ℕ). x < bound) xs
 
 -- ---- one step
 
@@ -27,12 +24,6 @@ pub record Stands (log : List ℕ) (at : ℕ) (r : Report) (next : ℕ) : Type 0
   pub fits : Below (2 ^ 32) (valuesOf r)
   pub bytes : drop at log ≡ coded r ++ drop next log
   pub place : next ≡ at + length (coded r)
-
--- what a fault is by its number, where the log goes on with these bytes after i of a number, all with their top bits set
-pub data Shows : ℕ → ℕ → List ℕ → Type 0 where
-  ends : {i : ℕ} → i ≤ 4 → Shows 1 i []
-  padded : {i : ℕ} {bs : List ℕ} → 1 ≤ i → i ≤ 4 → Shows 2 i (0 ∷ bs)
-  large : {b : ℕ} {bs : List ℕ} → 15 < b → Shows 3 4 (b ∷ bs)
 
 -- A report breaks off at the place p by fault k: from where it starts, fewer than eight numbers in their shortest form and
 -- then the begun bytes of one more stand there, with nothing wrong, up to that place.

@@ -1,22 +1,13 @@
 // A log of reports: a plain run of numbers, eight to a report, each in groups of seven bits.
+use groups::Fault;
+use groups::Parsed;
 use report::Report;
 ghost use mathlib.Core.Path.{_≡_};
 ghost use Rattle.log.specs.Log.{endStep, faultStep, stepAt};
-ghost use Rattle.log.specs.Answer.{numberOf, placeOf, isReport, stepOf, Starts, Steps, Holds};
+ghost use Rattle.groups.specs.Given.{numberOf, placeOf};
+ghost use Rattle.log.specs.Answer.{isReport, stepOf, Starts, Steps, Holds};
 
-mod numbers;
-
-// What is wrong with a log, and the place of the byte that shows it.
-pub enum Fault {
-    // The log ends inside a report; the place is its length.
-    Ends(usize),
-    // A number of several bytes has a last byte that is zero.
-    Padded(usize),
-    // A number's fifth byte is above 15.
-    Large(usize),
-}
-
-// What a reader hands out.
+// What a reader hands out: a report, the end, which stands between reports only, or what is wrong.
 pub enum Answer {
     Read(Report),
     End,
@@ -54,30 +45,6 @@ pub struct LogStep {
     pub report: Report,
 }
 
-impl Fault {
-    // The number of a fault, 1 to 3.
-    pub fn number(self) -> u32
-        ensures { λ n. ⌜ n ≡ numberOf self ⌝ }
-    {
-        match self {
-            Fault::Ends(_) => 1,
-            Fault::Padded(_) => 2,
-            Fault::Large(_) => 3,
-        }
-    }
-
-    // Its place.
-    pub fn place(self) -> usize
-        ensures { λ p. ⌜ p ≡ placeOf self ⌝ }
-    {
-        match self {
-            Fault::Ends(p) => p,
-            Fault::Padded(p) => p,
-            Fault::Large(p) => p,
-        }
-    }
-}
-
 // Reads what stands at a place of a log: a report, the end, which is given at the log's length and at any place past it, or
 // the first fault in the order of the bytes. The report of (2,1) with mode 1, one layer, i11 = 1, i2 = 1 and the rest 0 is
 // the bytes 02 01 01 01 01 00 00 01; the number 200 is C8 01.
@@ -94,13 +61,13 @@ pub fn taken_at(log: &[u8], from: usize) -> Taken
     let mut at = from;
     let mut j = 0;
     while j < 8 {
-        match numbers::number_at(log, at) {
-            numbers::Scanned::Number(value, next) => {
+        match groups::number_at(log, at) {
+            Parsed::Number(value, next) => {
                 values[j] = value;
                 at = next;
                 j += 1;
             }
-            numbers::Scanned::Broken(fault) => {
+            Parsed::Broken(fault) => {
                 return Taken {
                     answer: Answer::Faulty(fault),
                     next: from,

@@ -5,7 +5,7 @@ use native.Mathlib.Omega.{arith}
 use lib.ListN.{length, take, length-set}
 use borrow.Author.Needs.{needs}
 use Rattle.log.specs.Log.{takes, stepAt}
-use Rattle.log.specs.Answer.{foundOf}
+use Rattle.groups.specs.Given.{foundOf}
 use Rattle.log.proofs.Taking.{step-end, step-begins, number-within, takes-fault, takes-all, takes-stored}
 use Rattle.log.proofs.taken_at.Statement.{statement}
 use Rattle.log.proofs.taken_at.Tie as tie

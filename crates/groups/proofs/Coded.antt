@@ -12,9 +12,9 @@ use lib.ListN.{length}
 use borrow.Author.Tests.{lt-ltb, le-ltb, ltb-true, ltb-false, eq-eqb, ne-eqb}
 use Rattle.ground.specs.Lists.{All, all-nil, all-cons}
 use Rattle.ground.proofs.Booleans.{either, and-true-left, and-true-right, and-nothing}
-use Rattle.log.specs.Number.{value, fault, codeIn, isPadded, isLarge, scan}
-use Rattle.log.specs.Relied.{Below, Shows, ends, padded, large}
-use Rattle.log.proofs.Bytes.{fifth-small, not-fifth}
+use Rattle.groups.specs.Number.{value, fault, codeIn, isPadded, isLarge, scan}
+use Rattle.groups.specs.Relied.{Below, Shows, ends, padded, large}
+use Rattle.groups.proofs.Bytes.{fifth-small, pow-next}
 
 -- a byte that is not zero pads nothing; nor does the first
 pub not-padded : (i b : ℕ) → (i ≡ 0) ⊎ (0 < b) → isPadded i b ≡ false
@@ -38,9 +38,6 @@ groups s n p =
     let whole : n / 128 * 128 * p + n % 128 * p ≡ n * p = rw (← add-mul, div-add-mod' n 128) in
     let turned : n / 128 * (p * 128) ≡ n / 128 * 128 * p = rw (mul-comm p 128) (sym (mul-assoc (n / 128) 128 p)) in
     omega (arith, whole, turned)
-
-pow-next : (i : ℕ) → 128 ^ (i + 1) ≡ 128 ^ i * 128
-pow-next i = rw (add-one i) (pow-suc 128 i)
 
 -- ---- one byte
 

@@ -1,8 +1,8 @@
--- `numbers::is_large` meets its contract: its tests are those of the definition.
+-- `is_large` meets its contract: its tests are those of the definition.
 use borrow.Author.Tests.{eq-eqb, ne-eqb}
-use Rattle.log.specs.Number.{isLarge}
-use Rattle.log.proofs.numbers.is_large.Statement.{statement}
-use Rattle.log.proofs.numbers.is_large.Tie as tie
+use Rattle.groups.specs.Number.{isLarge}
+use Rattle.groups.proofs.is_large.Statement.{statement}
+use Rattle.groups.proofs.is_large.Tie as tie
 
 returns : tie.Need-returns
 unfolding isLarge

@@ -11,10 +11,10 @@ use lib.ListN.{length}
 use borrow.Author.Tests.{lt-ltb, le-ltb, ltb-true, ltb-false, eqb-true, eq-eqb}
 use Rattle.ground.specs.Lists.{All, all-nil, all-cons}
 use Rattle.ground.proofs.Booleans.{either, and-true-left, and-true-right}
-use Rattle.log.specs.Number.{fault, isPadded, isLarge, scan}
-use Rattle.log.specs.Relied.{Shows, ends, padded, large}
-use Rattle.log.proofs.Bytes.{not-fifth}
-use Rattle.log.proofs.Coded.{not-padded, not-large, byte-more}
+use Rattle.groups.specs.Number.{fault, isPadded, isLarge, scan}
+use Rattle.groups.specs.Relied.{Shows, ends, padded, large}
+use Rattle.groups.proofs.Bytes.{not-fifth}
+use Rattle.groups.proofs.Coded.{not-padded, not-large, byte-more}
 
 abbrev Topped : List ℕ → Type 0
 Topped bs = All (λ (b : ℕ). 128 ≤ b) bs

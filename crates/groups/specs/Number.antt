@@ -1,4 +1,4 @@
--- A number of a log: groups of seven bits, lowest group first, the top bit of a byte set when another follows; shortest
+-- A number: groups of seven bits, lowest group first, the top bit of a byte set when another follows; shortest
 -- form only, at most 32 bits.
 use mathlib.Core.Bool.{Bool, _&&_}
 use mathlib.Core.List.{List, [], _∷_}
@@ -33,7 +33,7 @@ isPadded i b = ltb 0 i && eqb b 0
 unfoldable pub isLarge : ℕ → ℕ → Bool
 isLarge i b = eqb i 4 && ltb 15 b
 
--- where the log goes on with `bs` at the place `at`, after i bytes that stand for n
+-- where `bs` stands at the place `at`, after i bytes of the number, which stand for n
 unfoldable pub scan : ℕ → ℕ → ℕ → List ℕ → Found
 scan i n at [] = fault 1 at
 scan i n at (b ∷ bs) =
@@ -42,6 +42,6 @@ scan i n at (b ∷ bs) =
     ∣ ltb b 128 ⇒ value (n + b % 128 * 128 ^ i) (at + 1)
     ∣ scan (i + 1) (n + b % 128 * 128 ^ i) (at + 1) bs
 
--- the number at a place of a log
+-- the number at a place of a list of bytes
 abbrev pub numberAt : List ℕ → ℕ → Found
-numberAt log at = scan 0 0 at (drop at log)
+numberAt bytes at = scan 0 0 at (drop at bytes)

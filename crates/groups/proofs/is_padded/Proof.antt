@@ -1,9 +1,9 @@
--- `numbers::is_padded` meets its contract: its tests are those of the definition.
+-- `is_padded` meets its contract: its tests are those of the definition.
 use native.Mathlib.Omega.{arith}
 use borrow.Author.Tests.{le-ltb, lt-ltb}
-use Rattle.log.specs.Number.{isPadded}
-use Rattle.log.proofs.numbers.is_padded.Statement.{statement}
-use Rattle.log.proofs.numbers.is_padded.Tie as tie
+use Rattle.groups.specs.Number.{isPadded}
+use Rattle.groups.proofs.is_padded.Statement.{statement}
+use Rattle.groups.proofs.is_padded.Tie as tie
 
 returns : tie.Need-returns
 unfolding isPadded
