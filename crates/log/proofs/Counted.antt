@@ -5,13 +5,14 @@ use Prim.Native.Nat.{ℕ, zero, suc, _+_, _<_, _≤_}
 use native.Mathlib.Numerals.{add-one}
 use native.Mathlib.Omega.{arith}
 use lib.Dec.{ltb}
-use lib.ListN.{length, drop, length-drop}
+use lib.ListN.{length, drop, length-append, length-drop}
 use borrow.Author.Tests.{ltb-true, ltb-false}
 use Rattle.ground.proofs.Booleans.{either}
 use Rattle.log.specs.declared.LogStep.{LogStep}
 use Rattle.log.specs.Log.{takes, stepAt}
 use Rattle.log.specs.Answer.{placeAfter}
 use Rattle.groups.proofs.Bytes.{scan-bounds}
+use Rattle.groups.proofs.Faults.{scan-begun}
 use Rattle.log.proofs.Taking.{step-end, step-begins, takes-by}
 
 -- a report takes a byte for each of its numbers, and ends within the log
@@ -36,6 +37,29 @@ module _ (log : List ℕ) (from : ℕ) where
       let within = ltb-true from (length log) t in
       let begins = step-begins log from within in
       rw begins (takes-moves 8 [] from (omega arith) (rw begins at e)))
+      (λ t.
+      let past = rw (step-end log from (ltb-false from (length log) t)) at e in
+      absurd (omega arith))
+
+  -- a fault has its place within the log, or at its length
+  abbrev Within : ℕ → List ℕ → ℕ → LogStep → Type 0
+  Within left got at s = at ≤ length log → s .kind ≡ 2 → s .place ≤ length log
+
+  pub fault-within : stepAt log from .kind ≡ 2 → stepAt log from .place ≤ length log
+  fault-within e =
+      either (ltb from (length log))
+      (λ t.
+      let inside = ltb-true from (length log) t in
+      let begins = step-begins log from inside in
+      rw begins
+      (takes-by log from Within
+      (λ got at within report. absurd (omega arith))
+      (λ left got at n next s found rest within. rest (omega (arith, scan-bounds (drop at log) 0 0 at found .within, length-drop at log)))
+      (λ left got at k p found within fault.
+      let b = scan-begun (drop at log) 0 0 at (omega arith) found in
+      let long = ap length (b .bytes) ∙ length-append (b .begun) (b .rest) in
+      omega (arith, b .place, long, length-drop at log))
+      8 [] from (omega arith) (rw begins at e)))
       (λ t.
       let past = rw (step-end log from (ltb-false from (length log) t)) at e in
       absurd (omega arith))

@@ -8,16 +8,16 @@ use Rattle.groups.specs.Number.{value, fault, codeIn, code, isPadded, isLarge, 
 use Rattle.log.specs.Log.{coded, reportStep, endStep, faultStep, after, takes, stepAt}
 
 -- (2,1) with mode 1, one layer, i11 = 1, i2 = 1 and the rest 0
-abbrev pub example : Report
-example = record { n1 = 2; n2 = 1; mode = 1; v = 1; i11 = 1; i12 = 0; i13 = 0; i2 = 1 }
+abbrev pub firstReport : Report
+firstReport = record { n1 = 2; n2 = 1; mode = 1; v = 1; i11 = 1; i12 = 0; i13 = 0; i2 = 1 }
 
-pub example-coded : coded example ≡ 2 ∷ 1 ∷ 1 ∷ 1 ∷ 1 ∷ 0 ∷ 0 ∷ 1 ∷ []
+pub first-coded : coded firstReport ≡ 2 ∷ 1 ∷ 1 ∷ 1 ∷ 1 ∷ 0 ∷ 0 ∷ 1 ∷ []
 unfolding join codeIn
-example-coded = refl
+first-coded = refl
 
-pub example-read : stepAt (2 ∷ 1 ∷ 1 ∷ 1 ∷ 1 ∷ 0 ∷ 0 ∷ 1 ∷ []) 0 ≡ reportStep example 8
+pub first-read : stepAt (2 ∷ 1 ∷ 1 ∷ 1 ∷ 1 ∷ 0 ∷ 0 ∷ 1 ∷ []) 0 ≡ reportStep firstReport 8
 unfolding stepAt takes after scan isPadded isLarge
-example-read = refl
+first-read = refl
 
 pub two-hundred : code 200 ≡ 200 ∷ 1 ∷ []
 unfolding codeIn

@@ -1,0 +1,172 @@
+// Prints the reports of the log on standard input, a line each, and then its end or its first fault; says on standard error
+// what could not be read or written.
+use libc::STDERR_FILENO;
+use libc::STDIN_FILENO;
+use libc::STDOUT_FILENO;
+use log::Answer;
+ghost use Prim.Native.Nat.{_+_, _^_, _<_, _≤_};
+ghost use lib.ListN.{length};
+
+// How many bytes of the log are held at once.
+const PART: usize = 65536;
+
+// No report is longer. Where so many bytes are left, they tell what stands at a place, whatever follows them
+// (crates/log/proofs/Windows.antt).
+const LONGEST_REPORT: usize = 40;
+
+// How many bytes of text are written at once.
+const LINES: usize = 16384;
+
+// How many bytes are counted. A place has 64 bits, and a loop that is proved has to end.
+const MOST_BYTES: u64 = 1 << 63;
+
+// How many bytes were read, and whether a read failed.
+struct Input {
+    length: usize,
+    failed: bool,
+}
+
+// How many bytes a line has, and the place behind its report; no bytes where there is no report.
+struct Line {
+    length: usize,
+    next: usize,
+}
+
+// The place behind the last report that is printed, and whether all of it was written.
+struct Printed {
+    next: usize,
+    whole: bool,
+}
+
+fn main() {
+    let mut part = [0; PART];
+    let mut held = 0;
+    // how many bytes of the log stand before those that are held
+    let mut before: u64 = 0;
+    while before < MOST_BYTES {
+        let more = read_once(&mut part[held..]);
+        if more.failed {
+            say(b"readlog: the log could not be read\n");
+            return;
+        }
+        held += more.length;
+        let ended = more.length == 0;
+        let least = if ended { 1 } else { LONGEST_REPORT };
+        let printed = print_reports(&part[..held], least);
+        if !printed.whole {
+            say(b"readlog: the reports could not be written\n");
+            return;
+        }
+        let next = printed.next;
+        if ended || least <= held - next {
+            print_last(&part[..held], next, before);
+            return;
+        }
+        to_front(&mut part, next, held);
+        held -= next;
+        before += next as u64;
+    }
+    say(b"readlog: the log is longer than 9223372036854775808 bytes\n");
+}
+
+fn say(message: &[u8]) {
+    io::write_all(STDERR_FILENO, message);
+}
+
+fn read_once(rest: &mut [u8]) -> Input
+    ensures { λ a. ⌜ a .length ≤ length (now (rest .exit)) ⌝ }
+{
+    let got = libc::read(STDIN_FILENO, rest);
+    Input {
+        length: io::count(got, rest),
+        failed: got < 0,
+    }
+}
+
+// The bytes of a part from a place up to another, moved to its front.
+fn to_front(part: &mut [u8], from: usize, to: usize)
+    requires { ⌜ to ≤ length (now part) ⌝ }
+{
+    let mut i = from;
+    while i < to {
+        part[i - from] = part[i];
+        i += 1;
+    }
+}
+
+// The line of the report at a place, if there is one.
+fn put_line(part: &[u8], at: usize, out: &mut [u8]) -> Line
+    requires { ⌜ at ≤ length (now part) ⌝ }
+    ensures { λ l.
+        ⌜ (l .length ≤ length (now (out .exit))) × (0 < l .length → at < l .next)
+        × (l .next ≤ length (now (part .entry))) ⌝ }
+{
+    let t = log::taken_at(part, at);
+    let answer = t.answer;
+    if let Answer::Read(r) = answer {
+        let numbers = [r.n1, r.n2, r.mode, r.v, r.i11, r.i12, r.i13, r.i2];
+        return Line {
+            length: text::numbers(numbers, out),
+            next: t.next,
+        };
+    }
+    Line {
+        length: 0,
+        next: at,
+    }
+}
+
+// Prints the reports of a part of the log, up to the first place where it has fewer bytes than `least` or where no report
+// stands.
+fn print_reports(part: &[u8], least: usize) -> Printed
+    ensures { λ p. ⌜ p .next ≤ length (now (part .entry)) ⌝ }
+{
+    let mut lines = [0; LINES];
+    let mut n = 0;
+    let mut at = 0;
+    while least <= part.len() - at {
+        let line = put_line(part, at, &mut lines[n..]);
+        if line.length == 0 {
+            break;
+        }
+        n += line.length;
+        at = line.next;
+        if lines.len() - n < text::LONGEST_LINE {
+            if !io::write_all(STDOUT_FILENO, &lines[..n]) {
+                return Printed {
+                    next: at,
+                    whole: false,
+                };
+            }
+            n = 0;
+        }
+    }
+    Printed {
+        next: at,
+        whole: io::write_all(STDOUT_FILENO, &lines[..n]),
+    }
+}
+
+// The line for the end or the fault at a place of a part, before which so many bytes of the log stand.
+fn put_last(part: &[u8], at: usize, before: u64, out: &mut [u8]) -> usize
+    requires { ⌜ before + length (now part) < 2 ^ 64 ⌝ }
+    ensures { λ n. ⌜ n ≤ length (now (out .exit)) ⌝ }
+{
+    let t = log::taken_at(part, at);
+    let answer = t.answer;
+    match answer {
+        Answer::Read(_) => 0,
+        Answer::End => text::end(out),
+        Answer::Faulty(f) => text::fault(f.number(), before + f.place() as u64, out),
+    }
+}
+
+fn print_last(part: &[u8], at: usize, before: u64)
+    requires { ⌜ before + length (now part) < 2 ^ 64 ⌝ }
+{
+    let mut line = [0; text::LONGEST_LINE];
+    let n = put_last(part, at, before, &mut line);
+    if !io::write_all(STDOUT_FILENO, &line[..n]) {
+        say(b"readlog: the last line could not be written\n");
+    }
+}
