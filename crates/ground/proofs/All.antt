@@ -1,6 +1,7 @@
 -- A property of every element of a list.
 use mathlib.Core.List.{List, _++_, map, map-id}
-use Prim.Native.Nat.{ℕ}
+use Prim.Native.Nat.{ℕ, zero, suc}
+use lib.ListN.{take, drop}
 use Rattle.ground.specs.Lists.{All, all-nil, all-cons}
 
 pub all-append : {P : ℕ → Type 0} {xs ys : List ℕ} → All P xs → All P ys → All P (xs ++ ys)
@@ -13,3 +14,13 @@ all-map f h (all-cons {x} p a) = all-cons (h x p) (all-map f h a)
 
 pub all-each : {P Q : ℕ → Type 0} → ((x : ℕ) → P x → Q x) → {xs : List ℕ} → All P xs → All Q xs
 all-each h a = rw map-id at (all-map (λ x. x) h a)
+
+pub all-take : {P : ℕ → Type 0} (n : ℕ) {xs : List ℕ} → All P xs → All P (take n xs)
+all-take zero a = all-nil
+all-take (suc n) all-nil = all-nil
+all-take (suc n) (all-cons h a) = all-cons h (all-take n a)
+
+pub all-drop : {P : ℕ → Type 0} (n : ℕ) {xs : List ℕ} → All P xs → All P (drop n xs)
+all-drop zero a = a
+all-drop (suc n) all-nil = all-nil
+all-drop (suc n) (all-cons h a) = all-drop n a

@@ -1,16 +1,19 @@
--- The matrix of a sound plan: its length, its layers, and what any two of them sum to.
+-- The matrix of a plan: its entries are phases; and of a sound one its length, its layers, and what any two of them sum to.
 use mathlib.Core.Path.{_≡_, sym, ap, ap₂, _∙_, subst, subst₂}
 use mathlib.Core.Logic.{_≢_}
-use mathlib.Core.List.{List}
+use mathlib.Core.List.{List, [], _∷_, map}
 use Prim.Native.Nat.{ℕ, _+_, _*_, _/_, _<_, _≤_}
-use native.Mathlib.Nat.{mod-eq-of-lt}
+use native.Mathlib.Nat.{mod-lt, mod-eq-of-lt}
 use native.Mathlib.Omega.{arith}
+use lib.Dec.{lit<}
 use lib.IntN.{natAbs}
 use lib.Arith.{digits-lt}
 use lib.ListN.{length, getD}
+use Rattle.ground.specs.Lists.{join, All, all-nil, all-cons}
+use Rattle.ground.proofs.All.{all-append}
 use Rattle.ground.proofs.Lists.{length-join, join-part, join-entry}
 use Rattle.turn.specs.Phase.{turn, phase}
-use Rattle.turn.specs.Column.{Setting, Divides, beam, column}
+use Rattle.turn.specs.Column.{Setting, Divides, product, beam, column}
 use Rattle.turn.specs.Exact.{differences, Orthogonal}
 use Rattle.turn.specs.Cancel.{Cancels}
 use Rattle.turn.proofs.Lists.{length-beam}
@@ -40,6 +43,22 @@ told-cancels c whole x y (by-co-phases co ms ns e e′ even) =
 told-cancels c whole x y (by-beams l m j1 j2 k1 k2 h h′ apart coarse) =
     rw (beam-moved c l m j1 j2 x h, beam-moved c l m k1 k2 y h′)
     (beams-cancel c whole l m j1 j2 k1 k2 apart (x .co) (y .co) coarse)
+
+-- ---- any plan: every entry is a phase
+
+phases-below : (xs : List ℕ) → All (λ x. x < turn) (map phase xs)
+phases-below [] = all-nil
+phases-below (x ∷ xs) = all-cons (mod-lt x (lit< tt)) (phases-below xs)
+
+columns-below : (p : Plan) (xs : List Layer) → All (λ x. x < turn) (join (map (columnOf p) xs))
+unfolding join columnOf column
+columns-below p [] = all-nil
+columns-below p (x ∷ xs) =
+    all-append (phases-below (product (x .co) (beam (p .block) (x .l) (x .m)))) (columns-below p xs)
+
+pub matrix-below : (p : Plan) → All (λ x. x < turn) (matrix p)
+unfolding matrix
+matrix-below p = columns-below p (p .layers)
 
 -- ---- a sound plan
 

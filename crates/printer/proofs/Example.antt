@@ -18,7 +18,7 @@ use Rattle.plan.specs.Answer.{early, test, refusal}
 use Rattle.single.specs.Columns.{byRank}
 use Rattle.single.specs.Plan.{whole, layers}
 use Rattle.single.specs.Masks.{bitsRead}
-use Rattle.text.specs.Words.{newline, space, ending, joined, decimal, lineOf, headed}
+use Rattle.text.specs.Words.{newline, space, ending, joined, decimalIn, lineOf, headed}
 use Rattle.text.specs.Text.{okText, linesOf, recordText}
 use Rattle.line.specs.declared.Reading.the-variants.{Read, Unreadable}
 use Rattle.line.specs.Form.{isDigit, valueAfter, isDecimal, Reads}
@@ -50,7 +50,7 @@ unfolding
     rule n base offsets moved beams
     byRank whole layers columnOf matrix
     bit isZero barred rankBarred bitsRead early test refusal
-    ending joined decimal lineOf headed okText linesOf recordText fullMask refusalOf
+    ending joined decimalIn lineOf headed okText linesOf recordText fullMask refusalOf
 example-text = refl
 
 pub without-newline : Reads example Unreadable

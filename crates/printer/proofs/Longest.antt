@@ -4,7 +4,9 @@ use mathlib.Core.List.{List}
 use Prim.Native.Nat.{ℕ, _≤_}
 use native.Mathlib.Omega.{arith}
 use lib.ListN.{length}
+use Rattle.ground.proofs.All.{all-each}
 use Rattle.plan.specs.Plan.{matrix}
+use Rattle.plan.proofs.Matrix.{matrix-below}
 use Rattle.single.specs.Plan.{plan}
 use Rattle.text.specs.Text.{longest}
 use Rattle.text.proofs.Writes.{fits-written}
@@ -16,7 +18,8 @@ use Rattle.printer.specs.Prints.{recordFor, answerOf, textOf, Prints}
 use Rattle.printer.proofs.Texts.{record-limits}
 
 pub text-few : (a : Reading) → length (textOf a) ≤ longest
-text-few (Read r) = record-few (recordFor r) (matrix (plan r)) (record-limits r)
+text-few (Read r) =
+    record-few (recordFor r) (matrix (plan r)) (record-limits r) (all-each (λ x h. omega arith) (matrix-below (plan r)))
 text-few Unreadable = unreadable-few
 
 -- where so many bytes are lent the answer is never that there is no room

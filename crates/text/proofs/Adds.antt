@@ -1,12 +1,12 @@
 -- A text that is written from a place of a lent buffer on: how one is written after another.
-use mathlib.Core.Path.{_≡_, sym, ap, _∙_}
+use mathlib.Core.Path.{_≡_, refl, sym, ap, _∙_}
 use mathlib.Core.Bool.{Bool}
 use mathlib.Core.List.{List, [], _∷_, _++_, append-nil, append-assoc}
-use Prim.Native.Nat.{ℕ, suc, _+_, _<_, _≤_}
+use Prim.Native.Nat.{ℕ, suc, _+_, _-_, _<_, _≤_}
 use native.Mathlib.Numerals.{add-one}
 use native.Mathlib.Omega.{arith}
 use lib.ListN.{length, take, drop, set, length-append, length-take, length-drop, take-append-drop}
-use lib.Seq.{take-at, take-all, drop-at, drop-drop, drop-cons, set-at, sets, sets-eq}
+use lib.Seq.{take-at, take-all, drop-at, drop-drop, drop-length, drop-cons, set-at, sets, sets-eq}
 use borrow.Author.Tests.{le-leb}
 use Rattle.ground.specs.Copied.{Copied}
 use Rattle.text.specs.Text.{Adds}
@@ -21,17 +21,21 @@ pub adds-stores : {text : List ℕ} (stores lent : List ℕ) (at : ℕ) → text
 adds-stores stores lent at e h =
     record { long = ap (λ (x : List ℕ). at + length x) (sym e); within = h; stands = rw e (sets-eq stores lent at h) }
 
--- a copy to the front
-pub adds-copy : {done : Bool} {left : List ℕ} (from lent : List ℕ) (n : ℕ) → length from ≡ n → n ≤ length lent
-    → Copied from n lent done left → Adds from 0 lent n left
-adds-copy from lent n e h c =
-    let long : n ≤ length from = omega arith in
-    let all = take-all n from (omega arith) in
-    record {
-      long = omega arith;
-      within = h;
-      stands = c .stands ∙ rw (c .fits, le-leb n (length from) long, le-leb n (length lent) h, all);
-    }
+-- a copy to what stands from a place on
+pub adds-copy : {done : Bool} {left : List ℕ} (from lent : List ℕ) (at : ℕ) → at + length from ≤ length lent
+    → Copied from (length from) (take (length lent - at) (drop at lent)) done left
+    → Adds from at lent (at + length from) (take at lent ++ (left ++ drop (length lent - at) (drop at lent)))
+adds-copy {left = left} from lent at h c =
+    let n = length from in
+    let end : at + (length lent - at) ≡ length lent = omega arith in
+    let rest = take-all (length lent - at) (drop at lent) (rw length-drop (omega arith)) in
+    let none : drop (length lent - at) (drop at lent) ≡ [] =
+    drop-drop (length lent - at) at lent ∙ ap (λ (k : ℕ). drop k lent) end ∙ drop-length lent in
+    let room = le-leb n (length (drop at lent)) (rw length-drop (omega arith)) in
+    let copied = rw rest at c in
+    let all : left ≡ from ++ drop (at + n) lent =
+    copied .stands ∙ rw (copied .fits, le-leb n n (omega arith), room, take-all n from (omega arith), drop-drop) in
+    record { long = refl; within = h; stands = rw (none, append-nil, all) (simp append-assoc) }
 
 module _ {text lent left : List ℕ} {at n : ℕ} (a : Adds text at lent n left) where
   -- what stands before the place where the text ends

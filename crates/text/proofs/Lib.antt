@@ -4,4 +4,5 @@ pub mod Writes
 pub mod Words
 pub mod Lines
 pub mod Records
+pub mod Listed
 pub mod Unique

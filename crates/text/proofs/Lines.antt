@@ -1,18 +1,22 @@
--- The lines of a matrix, and the first line of a text: how they are written, and how long they are.
+-- The lines of a matrix, a line of numbers, and the first line of a text: how they are written, and how long they are.
 use mathlib.Core.Path.{_≡_, refl, _∙_}
 use mathlib.Core.List.{List, [], _∷_, _++_, append-nil, append-assoc}
 use Prim.Native.Nat.{ℕ, zero, suc, _+_, _-_, _*_, _%_, _<_, _≤_}
-use native.Mathlib.Nat.{add-zero, add-suc, zero-mul, mul-zero}
+use native.Mathlib.Nat.{add-zero, add-suc, zero-mul, one-mul, mul-zero, mod-eq-of-lt}
+use native.Mathlib.Numerals.{add-one}
 use native.Mathlib.Omega.{arith}
 use lib.Arith.{digits-mod}
+use lib.Dec.{lit≤}
 use lib.ListN.{length, take, drop, getD, length-append, length-take, length-drop, length-map}
-use lib.Seq.{drop-cons}
+use lib.Seq.{take-all, drop-cons}
+use Rattle.ground.specs.Lists.{All}
+use Rattle.ground.proofs.All.{all-take, all-drop}
 use Rattle.plan.specs.declared.Record.{Record}
 use Rattle.plan.specs.Plan.{layerIn}
 use Rattle.plan.proofs.Layers.{layer-before}
 use Rattle.text.specs.Words.{ending, joined, decimal, ended, lineOf, headed}
 use Rattle.text.specs.Text.{linesOf, okText, refusedText, unreadableText}
-use Rattle.text.proofs.Words.{decimal-few, decimal-one-few, decimal-two-few, line-few}
+use Rattle.text.proofs.Words.{ended-few, line-few}
 
 -- ---- lines for layers
 
@@ -43,12 +47,13 @@ module _ (p : ℕ) (xs : List ℕ) where
       rw (line, ← lines-all j (omega arith)) (rw add-zero at (line-rest j 0 p h (omega arith)))
 
   -- which have p numbers at most
-  pub lines-few : (n : ℕ) → length (linesOf n p xs) ≤ 4 * (n * p)
+  pub lines-few : All (λ x. x < 1000) xs → (n : ℕ) → length (linesOf n p xs) ≤ 4 * (n * p)
   unfolding linesOf
-  lines-few zero = omega arith
-  lines-few (suc n) =
+  lines-few a zero = omega arith
+  lines-few a (suc n) =
       let short : length (layerIn p n xs) ≤ p = simp length-take (omega arith) in
-      simp length-append (omega (arith, lines-few n, line-few (layerIn p n xs)))
+      let line = line-few 3 (lit≤ tt) (all-take p (all-drop (n * p) a)) in
+      simp length-append (omega (arith, lines-few a n, line))
 
 -- lines that have a phase have some
 pub width-some : (v p i : ℕ) → i < v * p → 1 ≤ p
@@ -61,6 +66,19 @@ unfolding linesOf
 lines-before zero p v xs ys h e = refl
 lines-before (suc n) p v xs ys h e = rw (lines-before n p v xs ys (omega arith) e, layer-before p v n xs ys h e)
 
+-- ---- a line of numbers: one more, and all
+
+pub line-next : (n i : ℕ) (xs : List ℕ) → i < n
+    → linesBegun n (i + 1) xs ≡ linesBegun n i xs ++ ended (getD xs i 0) (n - 1 - i)
+unfolding linesBegun
+line-next n i xs h = rw (add-one, mod-eq-of-lt h)
+
+pub line-all : (n : ℕ) (xs : List ℕ) → length xs ≡ n → linesBegun n n xs ≡ lineOf xs
+unfolding linesOf
+line-all n xs e =
+    let all = lines-all n xs 1 (omega arith) in
+    rw (one-mul n, zero-mul n, take-all n xs (omega arith)) at all
+
 -- ---- the first line, word by word
 
 pub ok-words : (a : Record) → okText a
@@ -68,6 +86,10 @@ pub ok-words : (a : Record) → okText a
     ++ ended (a .scale) 0
 unfolding okText headed joined ending
 ok-words a = simp append-assoc
+
+pub ok-long : (a : Record) → length (okText a)
+    ≡ 3 + length (ended (a .ports) 2) + length (ended (a .layers) 1) + length (ended (a .scale) 0)
+ok-long a = rw (ok-words a) (simp length-append (omega arith))
 
 pub refused-words : (k : ℕ) → refusedText k
     ≡ (114 ∷ 101 ∷ 102 ∷ 117 ∷ 115 ∷ 101 ∷ 100 ∷ 32 ∷ []) ++ ended k 0
@@ -79,8 +101,9 @@ unfolding unreadableText headed joined ending
 unreadable-bytes = refl
 
 -- `ok 32 8 256` and a newline
-pub ok-few : (a : Record) → a .ports < 100 → a .layers < 10 → length (okText a) ≤ 12
-ok-few a h k =
-    rw (ok-words a)
-    (simp length-append
-    (omega (arith, decimal-two-few (a .ports) h, decimal-one-few (a .layers) k, decimal-few (a .scale))))
+pub ok-few : (a : Record) → a .ports < 100 → a .layers < 10 → a .scale < 1000 → length (okText a) ≤ 12
+ok-few a h k l =
+    let ports = ended-few 2 (a .ports) 2 (lit≤ tt) h in
+    let layers = ended-few 1 (a .layers) 1 (lit≤ tt) k in
+    let scale = ended-few 3 (a .scale) 0 (lit≤ tt) l in
+    omega (arith, ok-long a)

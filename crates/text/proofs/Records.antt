@@ -5,13 +5,14 @@ use mathlib.Core.List.{List, _++_}
 use Prim.Native.Nat.{ℕ, _*_, _<_, _≤_}
 use native.Mathlib.Nat.{mul-le-mul}
 use native.Mathlib.Omega.{arith}
-use lib.Dec.{eqb, leb, lit<}
+use lib.Dec.{eqb, leb, lit<, lit≤}
 use lib.ListN.{length, length-append}
 use borrow.Author.Tests.{leb-true, le-leb, eq-eqb, ne-eqb}
+use Rattle.ground.specs.Lists.{All}
 use Rattle.ground.proofs.Booleans.{and-true-left, and-true-right, cond-both}
 use Rattle.plan.specs.declared.Record.{Record}
 use Rattle.text.specs.Text.{linesOf, okText, refusedText, unreadableText, recordText, printable, longest}
-use Rattle.text.proofs.Words.{decimal-few}
+use Rattle.text.proofs.Words.{ended-few}
 use Rattle.text.proofs.Lines.{lines-few, lines-before, ok-words, ok-few, refused-words, unreadable-bytes}
 
 -- ---- by its refusal
@@ -73,15 +74,17 @@ module _ (a : Record) (phases : ℕ) where
 
 -- ---- how long it is
 
--- no text is longer than the longest
-pub record-few : {n : ℕ} (a : Record) (phases : List ℕ) → Limits a n → length (recordText a phases) ≤ longest
+-- no text of phases of three digits is longer than the longest
+pub record-few : {n : ℕ} (a : Record) (phases : List ℕ) → Limits a n → All (λ x. x < 1000) phases
+    → length (recordText a phases) ≤ longest
 unfolding recordText
-record-few a phases l =
+record-few a phases l short =
     let entries : a .layers * a .ports ≤ 8 * 32 = mul-le-mul (l .layers) (l .ports) in
-    let first = ok-few a (omega (arith, l .ports)) (omega (arith, l .layers)) in
+    let first = ok-few a (omega (arith, l .ports)) (omega (arith, l .layers)) (omega (arith, l .scale)) in
+    let number = ended-few 3 (a .refusal) 0 (lit≤ tt) (omega (arith, l .refusal)) in
     cond-both (λ (text : List ℕ). length text ≤ longest) (eqb (a .refusal) 0)
-    (simp length-append (omega (arith, first, lines-few (a .ports) phases (a .layers))))
-    (rw refused-words (simp length-append (omega (arith, decimal-few (a .refusal)))))
+    (simp length-append (omega (arith, first, lines-few (a .ports) phases short (a .layers))))
+    (rw refused-words (rw length-append (omega (arith, number))))
 
 -- and none is empty
 pub record-some : (a : Record) (phases : List ℕ) → 0 < length (recordText a phases)

@@ -10,6 +10,9 @@ use Rattle.text.specs.Text.{Writes}
 use Rattle.text.proofs.ending.Reads as ending
 use Rattle.text.proofs.answer.Reads as answer
 use Rattle.text.proofs.unreadable.Reads as unreadable
+use Rattle.text.proofs.listing.numbers.Reads as numbers
+use Rattle.text.proofs.listing.end.Reads as end
+use Rattle.text.proofs.listing.fault.Reads as fault
 
 pub ending-unique : Unique ending.Learnt
 ending-unique k a r r′ e e′ p q = p ∙ sym q
@@ -23,3 +26,12 @@ answer-unique k a r r′ e e′ = one-text
 
 pub unreadable-unique : UniqueLeft unreadable.Learnt (λ k e. now (e .0))
 unreadable-unique k a r r′ e e′ = one-text
+
+pub numbers-unique : UniqueLeft numbers.Learnt (λ k e. now (e .1 .0))
+numbers-unique k a r r′ e e′ = one-text
+
+pub end-unique : UniqueLeft end.Learnt (λ k e. now (e .0))
+end-unique k a r r′ e e′ = one-text
+
+pub fault-unique : UniqueLeft fault.Learnt (λ k e. now (e .1 .1 .0))
+fault-unique k a r r′ e e′ = one-text

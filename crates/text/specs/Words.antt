@@ -29,12 +29,14 @@ joined (word ∷ words) = word ++ ending (length words) ∷ joined words
 abbrev pub digit : ℕ → ℕ
 digit n = nought + n % 10
 
--- a number below 1000 in decimals, without leading zeros; of a larger one the last three digits
-unfoldable pub decimal : ℕ → List ℕ
-decimal n =
-    ltb n 10 ⇒ digit n ∷ []
-    ∣ ltb n 100 ⇒ digit (n / 10) ∷ digit n ∷ []
-    ∣ digit (n / 100) ∷ digit (n / 10) ∷ digit n ∷ []
+-- a number in decimals, without leading zeros; of one that has more than k digits the last k
+unfoldable pub decimalIn : ℕ → ℕ → List ℕ
+decimalIn zero n = []
+decimalIn (suc k) n = ltb n 10 ⇒ digit n ∷ [] ∣ decimalIn k (n / 10) ++ digit n ∷ []
+
+-- a number of 64 bits has 20 digits at most
+abbrev pub decimal : ℕ → List ℕ
+decimal n = decimalIn 20 n
 
 -- a number, and what follows it where so many words are left
 abbrev pub ended : ℕ → ℕ → List ℕ

@@ -1,24 +1,43 @@
-// Text for answers, written into a lent buffer.
+// Text for answers and for the listing of a log, written into a lent buffer.
 use plan::Record;
 use turn::Part;
 ghost use mathlib.Core.Path.{_≡_};
 ghost use mathlib.Core.Bool.{true};
 ghost use Prim.Native.Nat.{_≤_};
-ghost use lib.ListN.{length};
+ghost use lib.Dec.{leb};
+ghost use lib.ListN.{length, take};
 ghost use Rattle.text.specs.Words.{ending};
 ghost use Rattle.text.specs.Text.{longest, recordText, unreadableText, printable, Writes, Adds};
 
+mod listing;
 mod write;
+
+pub use listing::end;
+pub use listing::fault;
+pub use listing::numbers;
 
 // The bytes of the longest text: `ok 32 8 256`, and 8 lines of 32 phases, each of three digits and what follows it. A
 // buffer of so many has room for every answer.
 pub const LONGEST_TEXT: usize = 12 + 8 * 32 * 4;
+
+// The bytes of the longest line of a listing: eight numbers, each of ten digits and what follows it. A buffer of so many
+// has room for every such line.
+pub const LONGEST_LINE: usize = 8 * 11;
 
 // What follows a word after which so many are left: a space, and a newline after the last.
 pub fn ending(left: usize) -> u8
     ensures { λ b. ⌜ b ≡ ending left ⌝ }
 {
     if left == 0 { b'\n' } else { b' ' }
+}
+
+// Copies the first n bytes of a text to the front of a lent buffer and gives n; where fewer are lent, 0.
+fn put(text: &[u8], n: usize, out: &mut [u8]) -> usize
+    ensures { λ k.
+        ⌜ Writes (leb n (length (now (text .entry)))) (take n (now (text .entry))) (now (out .entry)) k
+        (now (out .exit)) ⌝ }
+{
+    if ground::copy(text, n, out) { n } else { 0 }
 }
 
 // Whether a record has the numbers of an answer, and there are phases for it.
@@ -47,7 +66,7 @@ fn compose(a: Record, phases: &[Part], out: &mut [u8]) -> usize
 {
     let number = a.refusal;
     if number != 0 {
-        return write::opened(b"refused ", number, 0, out);
+        return write::opened(b"refused ", number as u64, 0, 0, out);
     }
     let k = write::accepted(a, out);
     write::lines(phases, a.ports as usize, a.layers as usize, k, out)
@@ -68,7 +87,7 @@ pub fn answer(a: Record, phases: &[Part], out: &mut [u8]) -> usize
     }
     let mut text = [0; LONGEST_TEXT];
     let k = compose(a, phases, &mut text);
-    if ground::copy(&text, k, out) { k } else { 0 }
+    put(&text, k, out)
 }
 
 // Writes the text for what is no report: `unreadable` and a newline. Gives the number of its bytes; where fewer are lent, 0
@@ -76,9 +95,5 @@ pub fn answer(a: Record, phases: &[Part], out: &mut [u8]) -> usize
 pub fn unreadable(out: &mut [u8]) -> usize
     ensures { λ k. ⌜ Writes true unreadableText (now (out .entry)) k (now (out .exit)) ⌝ }
 {
-    if ground::copy(b"unreadable\n", 11, out) {
-        11
-    } else {
-        0
-    }
+    put(b"unreadable\n", 11, out)
 }

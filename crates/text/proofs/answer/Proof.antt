@@ -24,15 +24,9 @@ compose-requires c κs = (may (c .before), lit≤ tt)
 
 returns-2 : tie.Need-returns-2
 returns-2 c =
-    let copied = c .before .before .before in
+    let copied = c .before .before in
     let text = copied .before .before .before .before in
-    writes-composed (may (text .before .before)) (text .compose .ensures) (copied .copy .ensures) (rw (c .if2 .taken))
-
-returns-3 : tie.Need-returns-3
-returns-3 c =
-    let copied = c .before .before .before in
-    let text = copied .before .before .before .before in
-    writes-composed (may (text .before .before)) (text .compose .ensures) (copied .copy .ensures) (rw (c .if2 .left))
+    writes-composed (may (text .before .before)) (text .compose .ensures) (copied .put .ensures)
 
 pub answer-spec : {M : Type 1} → statement M
 answer-spec =
@@ -45,6 +39,4 @@ answer-spec =
     (λ c. omega arith)
     (λ c κs. tt)
     (λ c. omega arith)
-    returns-2
-    (λ c. omega arith)
-    returns-3)
+    returns-2)

@@ -1,11 +1,15 @@
 -- `write::lines` meets its contract: each turn has one phase more written after those that stand, and what follows it.
 use mathlib.Core.Path.{_≡_}
-use Prim.Native.Nat.{_+_, _-_, _*_, _≤_}
+use Prim.Native.Nat.{_+_, _-_, _*_, _%_, _≤_}
 use native.Mathlib.Nat.{mod-lt}
 use native.Mathlib.Numerals.{add-one}
 use native.Mathlib.Omega.{arith}
+use lib.Dec.{lit≤}
+use lib.ListN.{length, getD}
+use Rattle.text.specs.Words.{ended}
 use Rattle.text.specs.Text.{Adds}
 use Rattle.text.proofs.Adds.{adds-nothing, adds-then, adds-length}
+use Rattle.text.proofs.Words.{ended-few}
 use Rattle.text.proofs.Lines.{linesBegun, lines-all, width-some}
 use Rattle.text.proofs.write.lines.Statement.{statement}
 use Rattle.text.proofs.write.lines.Tie as tie
@@ -25,15 +29,24 @@ loop-holds c = (omega arith, adds-nothing _ _ (omega arith), omega arith)
 some : (c : tie.In-loop Inv-loop μ-loop) → 1 ≤ c .before .before .before .before .args .p
 some c = width-some _ _ _ (c .loop-test .taken)
 
+-- a byte has three digits at most
+short : (c : tie.After-shared-slice-known2 Inv-loop μ-loop) → let i = c .before .before .loop .i in
+    let a = c .before .before .before .before .before .args in
+    length (ended (getD (a .phases .now) i 0) (a .p - 1 - i % a .p)) ≤ 4
+short c = ended-few 3 _ _ (lit≤ tt) (omega (arith, c .shared-slice-known2 .given (c .before .before .loop .i)))
+
 ended-requires : tie.Need-ended-requires Inv-loop μ-loop
-ended-requires c κs = omega (arith, adds-length (c .before .before .before .loop .inv .1))
+ended-requires c κs = omega (arith, short (c .before), adds-length (c .before .before .before .loop .inv .1))
 
 loop-again : tie.Need-loop-again Inv-loop μ-loop
 unfolding linesBegun
 loop-again c =
     let e = c .before .before in
-    let l = e .before .before .before .before .loop in
-    (omega arith, rw add-one (adds-then (l .inv .1) (e .ended .ensures .0)), omega arith)
+    let l = e .before .before .before .before .loop in (
+      omega arith,
+      rw add-one (adds-then (l .inv .1) (e .ended .ensures)),
+      omega (arith, short (e .before .before), e .ended .ensures .long),
+    )
 
 returns : tie.Need-returns Inv-loop μ-loop
 returns c =
