@@ -7,7 +7,8 @@ use lib.ListN.{length, getD, length-map}
 use Rattle.report.specs.declared.Report.{Report}
 use Rattle.line.specs.declared.Reading.{Reading}
 use Rattle.line.specs.declared.Reading.the-variants.{Read, Unreadable}
-use Rattle.line.specs.Form.{value, valuesOf, Form, Reads}
+use Rattle.report.specs.Numbers.{valuesOf}
+use Rattle.line.specs.Form.{value, Form, Reads}
 use Rattle.line.proofs.Scanned.{words, good, good-found, joined-found}
 
 -- ---- a line that has the form is good, and its words are those that are found

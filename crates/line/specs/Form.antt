@@ -8,6 +8,7 @@ use lib.Dec.{leb}
 use lib.ListN.{length}
 use Rattle.ground.specs.Lists.{each}
 use Rattle.report.specs.declared.Report.{Report}
+use Rattle.report.specs.Numbers.{valuesOf}
 use Rattle.text.specs.Words.{nought, joined}
 use Rattle.line.specs.declared.Reading.{Reading}
 use Rattle.line.specs.declared.Reading.the-variants.{Read, Unreadable}
@@ -26,10 +27,6 @@ value word = valueAfter 0 word
 -- a decimal of 1 to 5 digits, at most 65535; leading zeros are allowed
 unfoldable pub isDecimal : List ℕ → Bool
 isDecimal word = each isDigit word && (leb 1 (length word) && (leb (length word) 5 && leb (value word) 65535))
-
--- the eight numbers of a report, in the order of a line
-abbrev pub valuesOf : Report → List ℕ
-valuesOf r = r .n1 ∷ r .n2 ∷ r .mode ∷ r .v ∷ r .i11 ∷ r .i12 ∷ r .i13 ∷ r .i2 ∷ []
 
 -- a line that has the form, and the report that it stands for; the newline is one of its 256 bytes
 pub record Form (line : List ℕ) (r : Report) : Type 0 where

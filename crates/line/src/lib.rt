@@ -1,7 +1,6 @@
 // One line of text, read as a report.
 use report::Report;
-ghost use mathlib.Core.Path.{_≡_};
-ghost use Rattle.line.specs.Form.{valuesOf, Reads};
+ghost use Rattle.line.specs.Form.{Reads};
 
 mod decimals;
 
@@ -13,22 +12,6 @@ pub enum Reading {
 
 // The bytes of the longest line that is read, with its newline.
 pub const LONGEST_LINE: usize = 256;
-
-// The report of eight numbers, in the order of a line.
-fn report_of(values: [u32; 8]) -> Report
-    ensures { λ r. ⌜ valuesOf r ≡ values ⌝ }
-{
-    Report {
-        n1: values[0],
-        n2: values[1],
-        mode: values[2],
-        v: values[3],
-        i11: values[4],
-        i12: values[5],
-        i13: values[6],
-        i2: values[7],
-    }
-}
 
 // Reads a line: N1 N2 mode v i11 i12 i13 i2, decimals of 1 to 5 digits, at most 65535, one space between them and a
 // newline at the end. Anything else is unreadable: a line without its newline, a byte after it, a sign, a second space.
@@ -54,5 +37,5 @@ pub fn read(line: &[u8]) -> Reading
     if at < line.len() {
         return Reading::Unreadable;
     }
-    Reading::Read(report_of(values))
+    Reading::Read(report::report_of(values))
 }

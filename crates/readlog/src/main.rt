@@ -7,15 +7,9 @@ use log::Answer;
 ghost use Prim.Native.Nat.{_+_, _^_, _<_, _≤_};
 ghost use lib.ListN.{length};
 
-// How many bytes of the log are held at once.
-const PART: usize = 65536;
-
 // No report is longer. Where so many bytes are left, they tell what stands at a place, whatever follows them
 // (crates/log/proofs/Windows.antt).
 const LONGEST_REPORT: usize = 40;
-
-// How many bytes of text are written at once.
-const LINES: usize = 16384;
 
 // How many bytes are counted. A place has 64 bits, and a loop that is proved has to end.
 const MOST_BYTES: u64 = 1 << 63;
@@ -26,7 +20,7 @@ struct Input {
     failed: bool,
 }
 
-// How many bytes a line has, and the place behind its report; no bytes where there is no report.
+// How many bytes a line has, and the place behind its report.
 struct Line {
     length: usize,
     next: usize,
@@ -39,7 +33,16 @@ struct Printed {
 }
 
 fn main() {
-    let mut part = [0; PART];
+    let mut part = io::large_buffer();
+    let mut lines = io::large_buffer();
+    print_log(&mut part, &mut lines);
+}
+
+// Prints the log, a part after the other. Of a part the reports are printed as long as so many bytes are left as one may
+// have; what is left is moved to the front, and more is read behind it.
+fn print_log(part: &mut [u8], lines: &mut [u8])
+    requires { ⌜ length (now part) ≤ 65536 ⌝ }
+{
     let mut held = 0;
     // how many bytes of the log stand before those that are held
     let mut before: u64 = 0;
@@ -49,20 +52,20 @@ fn main() {
             say(b"readlog: the log could not be read\n");
             return;
         }
+        // where nothing more comes, any byte that is left begins a report
+        let least = if more.length == 0 { 1 } else { LONGEST_REPORT };
         held += more.length;
-        let ended = more.length == 0;
-        let least = if ended { 1 } else { LONGEST_REPORT };
-        let printed = print_reports(&part[..held], least);
+        let printed = print_reports(part, held, least, lines);
         if !printed.whole {
             say(b"readlog: the reports could not be written\n");
             return;
         }
         let next = printed.next;
-        if ended || least <= held - next {
-            print_last(&part[..held], next, before);
+        if more.length == 0 || least <= held - next {
+            print_last(part, held, next, before);
             return;
         }
-        to_front(&mut part, next, held);
+        to_front(part, next, held);
         held -= next;
         before += next as u64;
     }
@@ -94,14 +97,13 @@ fn to_front(part: &mut [u8], from: usize, to: usize)
     }
 }
 
-// The line of the report at a place, if there is one.
-fn put_line(part: &[u8], at: usize, out: &mut [u8]) -> Line
-    requires { ⌜ at ≤ length (now part) ⌝ }
-    ensures { λ l.
-        ⌜ (l .length ≤ length (now (out .exit))) × (0 < l .length → at < l .next)
-        × (l .next ≤ length (now (part .entry))) ⌝ }
+// The line of the report at a place of what is held, and the place behind it; that of nothing, and the same place, where
+// there is none.
+fn put_line(part: &[u8], held: usize, at: usize, out: &mut [u8]) -> Line
+    requires { ⌜ (held ≤ length (now part)) × (at ≤ held) ⌝ }
+    ensures { λ l. ⌜ (l .length ≤ length (now (out .exit))) × (at ≤ l .next) × (l .next ≤ held) ⌝ }
 {
-    let t = log::taken_at(part, at);
+    let t = log::taken_at(&part[..held], at);
     let answer = t.answer;
     if let Answer::Read(r) = answer {
         let numbers = [r.n1, r.n2, r.mode, r.v, r.i11, r.i12, r.i13, r.i2];
@@ -116,23 +118,33 @@ fn put_line(part: &[u8], at: usize, out: &mut [u8]) -> Line
     }
 }
 
-// Prints the reports of a part of the log, up to the first place where it has fewer bytes than `least` or where no report
-// stands.
-fn print_reports(part: &[u8], least: usize) -> Printed
-    ensures { λ p. ⌜ p .next ≤ length (now (part .entry)) ⌝ }
+// Writes the first n bytes, and says whether it could.
+fn put_out(lines: &[u8], n: usize) -> bool
+    requires { ⌜ n ≤ length (now lines) ⌝ }
 {
-    let mut lines = [0; LINES];
+    io::write_all(STDOUT_FILENO, &lines[..n])
+}
+
+// Prints the reports of what is held, up to the first place where fewer bytes are left than `least` or where no report
+// stands.
+fn print_reports(part: &[u8], held: usize, least: usize, lines: &mut [u8]) -> Printed
+    requires { ⌜ held ≤ length (now part) ⌝ }
+    ensures { λ p. ⌜ p .next ≤ held ⌝ }
+{
     let mut n = 0;
     let mut at = 0;
-    while least <= part.len() - at {
-        let line = put_line(part, at, &mut lines[n..]);
-        if line.length == 0 {
-            break;
+    while least <= held - at {
+        let line = put_line(part, held, at, &mut lines[n..]);
+        if line.next == at {
+            return Printed {
+                next: at,
+                whole: put_out(lines, n),
+            };
         }
         n += line.length;
         at = line.next;
         if lines.len() - n < text::LONGEST_LINE {
-            if !io::write_all(STDOUT_FILENO, &lines[..n]) {
+            if !put_out(lines, n) {
                 return Printed {
                     next: at,
                     whole: false,
@@ -143,16 +155,16 @@ fn print_reports(part: &[u8], least: usize) -> Printed
     }
     Printed {
         next: at,
-        whole: io::write_all(STDOUT_FILENO, &lines[..n]),
+        whole: put_out(lines, n),
     }
 }
 
-// The line for the end or the fault at a place of a part, before which so many bytes of the log stand.
-fn put_last(part: &[u8], at: usize, before: u64, out: &mut [u8]) -> usize
-    requires { ⌜ before + length (now part) < 2 ^ 64 ⌝ }
+// The line for the end or the fault at a place of what is held, before which so many bytes of the log stand.
+fn put_last(part: &[u8], held: usize, at: usize, before: u64, out: &mut [u8]) -> usize
+    requires { ⌜ (held ≤ length (now part)) × (before + held < 2 ^ 64) ⌝ }
     ensures { λ n. ⌜ n ≤ length (now (out .exit)) ⌝ }
 {
-    let t = log::taken_at(part, at);
+    let t = log::taken_at(&part[..held], at);
     let answer = t.answer;
     match answer {
         Answer::Read(_) => 0,
@@ -161,12 +173,12 @@ fn put_last(part: &[u8], at: usize, before: u64, out: &mut [u8]) -> usize
     }
 }
 
-fn print_last(part: &[u8], at: usize, before: u64)
-    requires { ⌜ before + length (now part) < 2 ^ 64 ⌝ }
+fn print_last(part: &[u8], held: usize, at: usize, before: u64)
+    requires { ⌜ (held ≤ length (now part)) × (before + held < 2 ^ 64) ⌝ }
 {
     let mut line = [0; text::LONGEST_LINE];
-    let n = put_last(part, at, before, &mut line);
-    if !io::write_all(STDOUT_FILENO, &line[..n]) {
+    let n = put_last(part, held, at, before, &mut line);
+    if !put_out(&line, n) {
         say(b"readlog: the last line could not be written\n");
     }
 }

@@ -1,6 +1,6 @@
 -- `read` meets its contract: at each turn the line is good if what is left of it is, and its numbers are those that are
 -- stored and those that are left.
-use mathlib.Core.Path.{_≡_, refl, sym, _∙_}
+use mathlib.Core.Path.{_≡_, refl, sym, ap, _∙_}
 use mathlib.Core.List.{List, _++_, map, append-nil}
 use Prim.Native.Nat.{ℕ, suc, _+_, _-_, _*_, _≤_}
 use native.Mathlib.Numerals.{add-one}
@@ -8,6 +8,8 @@ use native.Mathlib.Omega.{arith}
 use lib.ListN.{length, take, drop, length-set, drop-of-length-le}
 use lib.Seq.{take-all, take-suc-set, drop-cons, append-snoc}
 use borrow.Author.Tests.{not-false, not-true}
+use Rattle.report.specs.Numbers.{valuesOf}
+use Rattle.report.proofs.Numbers.{values-of-eight}
 use Rattle.line.specs.Form.{value}
 use Rattle.line.proofs.Scanned.{words, good, rest-at}
 use Rattle.line.proofs.Forms.{reads-report, reads-nothing}
@@ -78,8 +80,9 @@ returns-4 c =
     let none : 8 - l .j ≡ 0 = omega arith in
     let past : length line ≤ l .at = omega arith in
     let all = take-all (l .j) (l .values) (omega arith) in
+    let values = ap valuesOf (c .report-of .ensures) ∙ values-of-eight (l .values) (omega arith) in
     reads-report line (omega arith) (l .inv .3 ∙ rw (none, drop-of-length-le line past))
-    (rw (none, append-nil, all) at (l .inv .4) ∙ sym (c .report-of .ensures))
+    (rw (none, append-nil, all) at (l .inv .4) ∙ sym values)
 
 pub read-spec : {M : Type 1} → statement M
 read-spec =
