@@ -15,6 +15,7 @@
 // 2 if reading or writing fails.
 // Freestanding: of the C library only read, write and _exit.
 #include "aspenflick.h"
+#include "stack.h"
 
 long read(int, void *, size_t);
 long write(int, const void *, size_t);
@@ -107,25 +108,6 @@ static int guards_stand(const loan *l) {
         stand &= (l->at - GUARD)[i] == guard(l, i) && (l->at + l->len)[i] == guard(l, GUARD + i);
     }
     return stand;
-}
-
-// The stack below a call is painted before it, further down than a call may use, and looked at after it. Both functions
-// have their frame where the call has its own, so that what stands nearest to the caller, at most 128 bytes, may go
-// unseen; it is added.
-enum { WORD = sizeof(uint64_t), STACK = 3072 / WORD, UNSEEN = 128 };
-static const uint64_t PAINT = 0xa5a5a5a5a5a5a5a5;
-
-static __attribute__((noinline)) void paint(void) {
-    volatile uint64_t below[STACK];
-    for (size_t i = 0; i < STACK; i++) below[i] = PAINT;
-}
-
-static __attribute__((noinline)) uint32_t stack_used(void) {
-    volatile uint64_t below[STACK];
-    size_t kept = 0;
-    __asm__ volatile("" : "=m"(below));
-    while (kept < STACK && below[kept] == PAINT) kept++;
-    return (uint32_t)(WORD * (STACK - kept) + UNSEEN);
 }
 
 static loan beams, buffer;

@@ -1,0 +1,337 @@
+#!/usr/bin/env python3
+"""Tests the program readlog: compares what it prints of logs, to the byte, with a reader of its own.
+
+    logs.py STARTER READLOG PMI    test; STARTER starts either program
+
+The last line is `N passed, M failed`; the exit status is 0 only if N is above 0 and M is 0, and 2 for wrong words.
+Needs Python 3.9; takes about TIME. tests/readlog starts this.
+
+The reader here is a grammar: a number is one of three forms of bytes, a report eight of them, and what stands behind the
+last number that can be read has exactly one of the forms that are faults. It is held against logs that are read by hand.
+
+What is sent:
+  by hand    logs with the text that must come, written here
+  short      all logs of one byte
+  prefixes   every prefix of a log of twelve reports, which has the first and the last number of each count of bytes
+  changes    that log with one byte changed
+  lengths    logs whose ends, and whose faults, lie around the sizes that a buffer may have
+  offsets    reports of 40 bytes, the longest, which lie across the end of a buffer in every way
+  random     random logs, whole, cut or damaged
+  pieces     logs that arrive in pieces, each sent when all before it has been read; and one that never ends
+  large      100 MB, whole and with a fault in the last report; what comes is compared as it comes
+  pmi        lines that readlog has printed, answered by pmi
+"""
+
+import collections
+import concurrent.futures
+import functools
+import os
+import random
+import re
+import subprocess
+import sys
+import threading
+import time
+
+from cases import MOST_HUNG, WORKED, Came, Program, Tests, answered
+
+SEED = 38_214
+
+# ---- The reader -------------------------------------------------------------------------------------------------------
+
+NUMBER = re.compile(rb'[\x00-\x7f]|[\x80-\xff]{1,3}[\x01-\x7f]|[\x80-\xff]{4}[\x01-\x0f]')
+REPORT = re.compile(rb'(?:' + NUMBER.pattern + rb'){8}')
+# What can stand where no number does, each with its number; the place is that of the last byte, of the first one behind it.
+FAULTS = {1: re.compile(rb'[\x80-\xff]{0,4}\Z'), 2: re.compile(rb'[\x80-\xff]{1,4}\x00'),
+          3: re.compile(rb'[\x80-\xff]{4}[\x10-\xff]')}
+
+
+@functools.lru_cache(maxsize=1 << 16)
+def decimal(code):
+    """The number that bytes stand for: their lower seven bits, the last ones first."""
+    return str(int(''.join(format(byte, '08b')[1:] for byte in reversed(code)), 2))
+
+
+def lines(log):
+    """The lines that are to be printed of a log."""
+    at = 0
+    while report := REPORT.match(log, at):
+        yield ' '.join(map(decimal, NUMBER.findall(report[0])))
+        at = report.end()
+    if at == len(log):
+        yield 'end'
+        return
+    while number := NUMBER.match(log, at):
+        at = number.end()
+    (fault, found), = ((fault, found) for fault, form in FAULTS.items() if (found := form.match(log, at)))
+    yield f'fault {fault} at {len(log) if fault == 1 else found.end() - 1}'
+
+
+def text_of(log):
+    return ''.join(line + '\n' for line in lines(log)).encode()
+
+
+# ---- Logs -------------------------------------------------------------------------------------------------------------
+
+def code(number):
+    """The bytes of a number, in its shortest form."""
+    groups = [number >> shift & 127 for shift in range(0, max(number.bit_length(), 1), 7)]
+    return bytes([128 + group for group in groups[:-1]] + groups[-1:])
+
+
+def log_of(*reports):
+    return b''.join(code(number) for report in reports for number in report)
+
+
+# A log in hexadecimal, and its text.
+BY_HAND = {
+    'nothing': ('', 'end'),
+    'case 1 of 01': ('02 01 01 01 01 00 00 01', '2 1 1 1 1 0 0 1, end'),
+    '200 and the largest number': ('C8 01 00 00 00 00 00 00 FF FF FF FF 0F', '200 0 0 0 0 0 0 4294967295, end'),
+    'the last number of one byte, the first of two': ('7F 80 01 00 00 00 00 00 00', '127 128 0 0 0 0 0 0, end'),
+    'two reports': ('01 02 03 04 05 06 07 08' * 2, '1 2 3 4 5 6 7 8, 1 2 3 4 5 6 7 8, end'),
+    'the end inside a number': ('02 01 01 01 01 00 00 81', 'fault 1 at 8'),
+    'the end between two numbers': ('02 01 01 01 01 00 00', 'fault 1 at 7'),
+    'the end after four bytes that go on': ('80 80 80 80', 'fault 1 at 4'),
+    'the end in the second report': ('01 02 03 04 05 06 07 08 01', '1 2 3 4 5 6 7 8, fault 1 at 9'),
+    'a padded zero': ('80 00', 'fault 2 at 1'),
+    'a padded number': ('02 C8 81 00 01 01 01 00 00 01', 'fault 2 at 3'),
+    'a fifth byte of zero': ('80 80 80 80 00', 'fault 2 at 4'),
+    'a fifth byte of 16': ('80 80 80 80 10', 'fault 3 at 4'),
+    'a fifth byte with its top bit': ('00 80 80 80 80 80', 'fault 3 at 5'),
+    'a fifth byte of 15 with its top bit': ('FF FF FF FF 8F 00', 'fault 3 at 4'),
+    'a fault and another behind it': ('80 00 80 80 80 80 10', 'fault 2 at 1'),
+    'two faults the other way': ('80 80 80 80 10 80 00', 'fault 3 at 4'),
+}
+
+BOUNDS = (0, 127, 128, 16383, 16384, 2 ** 21 - 1, 2 ** 21, 2 ** 28 - 1, 2 ** 28, 2 ** 32 - 1)
+LARGEST = (2 ** 32 - 1,) * 8
+TWELVE = ((2, 1, 1, 1, 1, 0, 0, 1), (4, 2, 1, 2, 200, 127, 128, 0), BOUNDS[:8], BOUNDS[2:], (16, 1, 2, 2, 31, 0, 3, 7),
+          LARGEST, (2 ** 31, 2 ** 31 - 1, 65535, 65536, 255, 256, 1, 0), (0,) * 8, (127,) * 8,
+          (129, 16385, 2 ** 21 + 1, 2 ** 28 + 1, 2 ** 32 - 2, 10, 100, 1000), (1, 1, 1, 1, 0, 0, 0, 3),
+          (4, 4, 1, 8, 15, 15, 0, 1))
+# Reports of 40 bytes, whose numbers have ten digits.
+LONGEST = (LARGEST, (2 ** 28, *range(3 * 10 ** 9, 3 * 10 ** 9 + 6), 2 ** 32 - 2))
+
+
+def small(size):
+    """A log without fault of so many bytes, eight or more: small reports, the first of which makes up for the rest."""
+    first = [128] * (size % 8) + [1] * (8 - size % 8)
+    return log_of(first) + bytes(k % 128 for k in range(size // 8 * 8 - 8))
+
+
+def draw_number(draw):
+    return draw.choice((draw.randrange(64), draw.choice(BOUNDS), draw.getrandbits(32) >> draw.randrange(32)))
+
+
+def draw_log(draw):
+    """Without damage, or with some."""
+    log = bytearray(log_of([draw_number(draw) for _ in range(8 * draw.randrange(1, 12))]))
+    for _ in range(draw.choice((0, 0, 1, 2))):
+        at = draw.randrange(len(log))
+        change = draw.randrange(5)
+        if change == 0:
+            del log[at + 1:]
+        elif change == 1:
+            log[at] = draw.randrange(256)
+        elif change == 2:
+            log[at] ^= 128
+        elif change == 3:
+            log[at:at] = bytes(draw.randrange(128, 256) for _ in range(4)) + bytes([draw.choice((0, 1, 15, 16, 31, 143))])
+        else:
+            ends = next((k for k in range(at, len(log)) if log[k] < 128), at)
+            log[ends:ends + 1] = bytes([log[ends] | 128, 0])
+    return bytes(log)
+
+
+# Sizes of a buffer, and how far from them a log ends.
+SIZES, AROUND = (4096, 8192, 16384, 65536, 131072), (-1, 0, 1, 39, 40, 41)
+RANDOM_LOGS, CHANGES = 150, 300
+
+
+def logs():
+    """A name and a log of each that is sent as a file."""
+    draw, twelve, longest = random.Random(SEED), log_of(*TWELVE), log_of(*LONGEST)
+    for byte in range(256):
+        yield f'short: byte {byte}', bytes([byte])
+    for size in range(len(twelve) + 1):
+        yield f'prefixes: {size} bytes', twelve[:size]
+    for k in range(CHANGES):
+        at = k % len(twelve)
+        byte = twelve[at] ^ (128 if k < len(twelve) and k % 2 else draw.randrange(1, 256))
+        yield f'changes: byte {at} is {byte}', twelve[:at] + bytes([byte]) + twelve[at + 1:]
+    for size in (size + more for size in SIZES for more in AROUND):
+        yield f'lengths: {size} bytes, whole', small(size)
+        yield f'lengths: {size} bytes of long reports', (longest * (size // 80 + 1))[:size]
+    for place in (65535, 65536, 65537, 65575, 131072, 200_000):
+        # in the third number of a report, which is the first one past the place or lies across it
+        head = small(place - 2 - 4) + b'\1\1'
+        yield f'lengths: fault 3 at {place}', head + b'\xff\xff\xff\xff\x1f' + longest
+        yield f'lengths: fault 2 at {place}', head + b'\xff\xff\xff\xff\x00' + longest
+        yield f'lengths: fault 1 at {place}', (head + b'\xff\xff\xff\xff')[:place]
+    for shift in range(40):
+        # 140,000 bytes
+        yield f'offsets: {shift} bytes before reports of 40', small(8 + shift) + longest * 1750
+    for k in range(RANDOM_LOGS):
+        yield f'random: log {k}', draw_log(draw)
+
+
+def in_pieces(log, size):
+    return [log[k:k + size] for k in range(0, len(log), size)]
+
+
+def deliveries():
+    """A name, a log and its pieces, of each that is sent through a pipe."""
+    twelve, longest = log_of(*TWELVE), log_of(*LONGEST)
+    yield 'pieces: none', b'', []
+    for cut in range(1, 80, 2):
+        yield f'pieces: {cut} bytes first', longest, [longest[:cut], longest[cut:]]
+    for name, log in (('twelve reports', twelve), ('a cut log', twelve[:-1]), ('a padded number', twelve[:-1] + b'\x80\0\1'),
+                      ('a large number', twelve[:-1] + b'\x80\x80\x80\x80\x10\1')):
+        yield f'pieces: {name} byte by byte', log, in_pieces(log, 1)
+    for size in (7, 39, 41):
+        yield f'pieces: twelve reports by {size} bytes', twelve, in_pieces(twelve, size)
+    for size in (999, 4096, 65536):
+        log = small(13) + longest * 1640
+        yield f'pieces: {len(log)} bytes by {size}', log, in_pieces(log, size)
+
+
+# ---- The large log ----------------------------------------------------------------------------------------------------
+
+# What is sent at least, what of it is repeated and what is read at a time, in bytes; after so many seconds it hangs.
+LARGE, BLOCK, CHUNK, SECONDS = 100_000_000, 1_000_000, 1 << 16, 300
+
+
+def large_block():
+    """About a million bytes of reports: as many bytes of small ones as of those with 40 bytes."""
+    draw = random.Random(SEED)
+    parts, size = [], 0
+    while size < BLOCK:
+        few = [[draw.choice((2, 4, 8)), 1, 1, 2, draw.randrange(256), 0, 1, draw.randrange(2)] for _ in range(5)]
+        parts.append(log_of(*few, [2 ** 32 - 1 - draw.randrange(2 ** 31) for _ in range(8)]))
+        size += len(parts[-1])
+    return b''.join(parts)
+
+
+def text_behind(before, log):
+    """The text of a log that stands behind so many bytes."""
+    *reports, last = lines(log)
+    words = last.split()
+    if words[0] == 'fault':
+        words[-1] = str(before + int(words[-1]))
+    return ''.join(line + '\n' for line in (*reports, ' '.join(words))).encode()
+
+
+# What stands behind the blocks: nothing, or two reports of which the last has a padded number.
+TAILS = {'whole': b'', 'a fault in the last report': log_of(*LONGEST)[:-1] + b'\0'}
+
+
+def send_large(program, tail):
+    """Sends the block again and again, and then the tail. Gives how many bytes that is, what is due and what came, in place
+    of the output how many bytes are as due, and the seconds."""
+    block, began = large_block(), time.monotonic()
+    times, text = LARGE // len(block) + 1, text_of(block)[:-len('end\n')]
+    ending = text_behind(times * len(block), tail)
+    twice, whole, seen = text + text, times * len(text), 0
+    process = program.start(subprocess.PIPE)
+
+    def send():
+        try:
+            with process.stdin as pipe:
+                for _ in range(times):
+                    pipe.write(block)
+                pipe.write(tail)
+        except BrokenPipeError:
+            pass
+
+    sender, patience = threading.Thread(target=send), threading.Timer(SECONDS, process.kill)
+    sender.start()
+    patience.start()
+    while came := os.read(process.stdout.fileno(), CHUNK):
+        at, left = seen % len(text), max(0, whole - seen)
+        due = twice[at:at + min(left, len(came))] + ending[max(0, seen - whole):max(0, seen + len(came) - whole)]
+        seen += len(os.path.commonprefix([came, due])) if came != due else len(came)
+        if came != due:
+            process.kill()
+            break
+    sender.join()
+    errors = process.stderr.read()
+    status = process.wait()
+    patience.cancel()
+    process.stdout.close()
+    process.stderr.close()
+    size = times * len(block) + len(tail)
+    return size, Came(whole + len(ending), b'', 0), Came(seen, errors, status), time.monotonic() - began
+
+
+# ---- Tests ------------------------------------------------------------------------------------------------------------
+
+def check_reader(tests):
+    """The reader here, on what is read by hand, and codes of numbers both ways."""
+    for name, (digits, text) in BY_HAND.items():
+        tests.check(f'by hand: {name}', list(lines(bytes.fromhex(digits))) == text.split(', '))
+    for number in (*BOUNDS, 200, 65535, 10 ** 9):
+        tests.check(f'the code of {number}', NUMBER.fullmatch(code(number)) and decimal(code(number)) == str(number))
+    tests.check('a report of 40 bytes', {len(log_of(report)) for report in LONGEST} == {40})
+
+
+def check_pmi(tests, program, pmi):
+    """What readlog prints of the worked reports of 01 is answered by pmi as they are."""
+    reports = [line for line, _ in WORKED.values()]
+    came = program.from_file_of(log_of(*(map(int, line.split()) for line in reports), LARGEST))
+    printed = came.output.decode().splitlines(keepends=True)
+    tests.check('pmi: a line for each worked report, and two more', len(printed) == len(reports) + 2, str(came))
+    for line, (_, answer) in zip(printed, WORKED.values()):
+        answer = answer.lstrip('\n').encode()
+        tests.check_run(f'pmi: {line}', line.encode(), Came(answer, b'', 0), pmi.from_file_of(line.encode()))
+    for line in printed[len(reports):]:
+        tests.check_run(f'pmi: {line}', line.encode(), answered(line.encode()), pmi.from_file_of(line.encode()))
+
+
+# How many logs of each kind there are at least.
+FEWEST = 50
+
+
+def runs_of(program):
+    """A name, a log and how it is sent, of each; of the one without end, its first bytes."""
+    files = [(f'by hand: {name}', bytes.fromhex(digits)) for name, (digits, _) in BY_HAND.items()] + list(logs())
+    runs = [(name, log, lambda log=log: program.from_file_of(log)) for name, log in files]
+    runs += [(name, log, lambda pieces=pieces: program.from_pipe(*pieces)) for name, log, pieces in deliveries()]
+    runs.append(('pieces: bytes that go on, without end', b'\x80' * 8,
+                 lambda: program.from_command('bash', '-c', r"tr '\0' '\200' </dev/zero")))
+    return runs
+
+
+def main(arguments):
+    if arguments in (['--help'], ['-h']):
+        print(__doc__.strip())
+        return 0
+    if len(arguments) != 3 or arguments[0].startswith('-'):
+        print('logs: it takes STARTER READLOG PMI or --help', file=sys.stderr)
+        return 2
+    starter, readlog, pmi = arguments
+    tests, program, began = Tests(), Program([starter, readlog]), time.monotonic()
+    check_reader(tests)
+    runs = runs_of(program)
+    last_lines = collections.Counter(text_of(log).splitlines()[-1].partition(b' at ')[0].decode() for _, log, _ in runs)
+    tests.check('logs of every kind', len(last_lines) == 4 and min(last_lines.values()) >= FEWEST, str(last_lines))
+    parts = collections.Counter(name.partition(':')[0] for name, _, _ in runs)
+    for counted in (parts, last_lines):
+        print(f'{len(runs)} logs: ' + ', '.join(f'{name} {count}' for name, count in counted.items()))
+    not_run = Came(b'', b'', f'not run, as {MOST_HUNG} hung')
+    with concurrent.futures.ThreadPoolExecutor(2) as pool:
+        large = [(name, pool.submit(send_large, program, tail)) for name, tail in TAILS.items()]
+        answers = pool.map(lambda run: run[2]() if program.hung < MOST_HUNG else not_run, runs)
+        for (name, log, _), came in zip(runs, answers):
+            tests.check_run(name, log, Came(text_of(log), b'', 0), came)
+        for name, sent in large:
+            size, due, came, seconds = sent.result()
+            print(f'large: {name}: {size} bytes, {due.output} of text, in {seconds:.0f} s')
+            tests.check(f'large: {name}', came == due, f'bytes of text, errors, status: {due}', f'as due up to {came}')
+    check_pmi(tests, program, Program([starter, pmi]))
+    print(f'in all {time.monotonic() - began:.0f} s')
+    return tests.report()
+
+
+if __name__ == '__main__':
+    sys.exit(main(sys.argv[1:]))
