@@ -4,7 +4,7 @@
     logs.py STARTER READLOG PMI    test; STARTER starts either program
 
 The last line is `N passed, M failed`; the exit status is 0 only if N is above 0 and M is 0, and 2 for wrong words.
-Needs Python 3.9; takes about TIME. tests/readlog starts this.
+Needs Python 3.9; takes about forty seconds. tests/readlog starts this.
 
 The reader here is a grammar: a number is one of three forms of bytes, a report eight of them, and what stands behind the
 last number that can be read has exactly one of the forms that are faults. It is held against logs that are read by hand.
@@ -41,7 +41,7 @@ SEED = 38_214
 
 NUMBER = re.compile(rb'[\x00-\x7f]|[\x80-\xff]{1,3}[\x01-\x7f]|[\x80-\xff]{4}[\x01-\x0f]')
 REPORT = re.compile(rb'(?:' + NUMBER.pattern + rb'){8}')
-# What can stand where no number does, each with its number; the place is that of the last byte, of the first one behind it.
+# What stands where no number does, by the number of the fault. The place is that of its last byte; of fault 1, the length.
 FAULTS = {1: re.compile(rb'[\x80-\xff]{0,4}\Z'), 2: re.compile(rb'[\x80-\xff]{1,4}\x00'),
           3: re.compile(rb'[\x80-\xff]{4}[\x10-\xff]')}
 
@@ -146,7 +146,7 @@ def draw_log(draw):
 
 # Sizes of a buffer, and how far from them a log ends.
 SIZES, AROUND = (4096, 8192, 16384, 65536, 131072), (-1, 0, 1, 39, 40, 41)
-RANDOM_LOGS, CHANGES = 150, 300
+RANDOM_LOGS, CHANGES = 100, 200
 
 
 def logs():
@@ -184,15 +184,17 @@ def deliveries():
     """A name, a log and its pieces, of each that is sent through a pipe."""
     twelve, longest = log_of(*TWELVE), log_of(*LONGEST)
     yield 'pieces: none', b'', []
-    for cut in range(1, 80, 2):
+    for cut in range(1, 80, 3):
         yield f'pieces: {cut} bytes first', longest, [longest[:cut], longest[cut:]]
-    for name, log in (('twelve reports', twelve), ('a cut log', twelve[:-1]), ('a padded number', twelve[:-1] + b'\x80\0\1'),
+    for name, log in (('twelve reports', twelve), ('a cut log', twelve[:-1]),
+                      ('a padded number', twelve[:-1] + b'\x80\0\1'),
                       ('a large number', twelve[:-1] + b'\x80\x80\x80\x80\x10\1')):
         yield f'pieces: {name} byte by byte', log, in_pieces(log, 1)
     for size in (7, 39, 41):
         yield f'pieces: twelve reports by {size} bytes', twelve, in_pieces(twelve, size)
-    for size in (999, 4096, 65536):
-        log = small(13) + longest * 1640
+    # its text is not read before all is sent, so it has to fit into a pipe
+    log = small(13) + longest * 110
+    for size in (99, 999, 4096):
         yield f'pieces: {len(log)} bytes by {size}', log, in_pieces(log, size)
 
 
@@ -203,9 +205,8 @@ LARGE, BLOCK, CHUNK, SECONDS = 100_000_000, 1_000_000, 1 << 16, 300
 
 
 def large_block():
-    """About a million bytes of reports: as many bytes of small ones as of those with 40 bytes."""
-    draw = random.Random(SEED)
-    parts, size = [], 0
+    """About a million bytes of reports, half of them small ones and half with 40 bytes."""
+    draw, parts, size = random.Random(SEED), [], 0
     while size < BLOCK:
         few = [[draw.choice((2, 4, 8)), 1, 1, 2, draw.randrange(256), 0, 1, draw.randrange(2)] for _ in range(5)]
         parts.append(log_of(*few, [2 ** 32 - 1 - draw.randrange(2 ** 31) for _ in range(8)]))
@@ -247,21 +248,20 @@ def send_large(program, tail):
     sender, patience = threading.Thread(target=send), threading.Timer(SECONDS, process.kill)
     sender.start()
     patience.start()
-    while came := os.read(process.stdout.fileno(), CHUNK):
-        at, left = seen % len(text), max(0, whole - seen)
-        due = twice[at:at + min(left, len(came))] + ending[max(0, seen - whole):max(0, seen + len(came) - whole)]
-        seen += len(os.path.commonprefix([came, due])) if came != due else len(came)
-        if came != due:
-            process.kill()
-            break
-    sender.join()
-    errors = process.stderr.read()
-    status = process.wait()
+    with process:
+        while came := os.read(process.stdout.fileno(), CHUNK):
+            at, left = seen % len(text), max(0, whole - seen)
+            due = twice[at:at + min(left, len(came))] + ending[max(0, seen - whole):max(0, seen + len(came) - whole)]
+            if came != due:
+                seen += len(os.path.commonprefix([came, due]))
+                process.kill()
+                break
+            seen += len(came)
+        errors = process.stderr.read()
+        sender.join()
     patience.cancel()
-    process.stdout.close()
-    process.stderr.close()
-    size = times * len(block) + len(tail)
-    return size, Came(whole + len(ending), b'', 0), Came(seen, errors, status), time.monotonic() - began
+    size, seconds = times * len(block) + len(tail), time.monotonic() - began
+    return size, Came(whole + len(ending), b'', 0), Came(seen, errors, process.returncode), seconds
 
 
 # ---- Tests ------------------------------------------------------------------------------------------------------------
@@ -288,18 +288,18 @@ def check_pmi(tests, program, pmi):
         tests.check_run(f'pmi: {line}', line.encode(), answered(line.encode()), pmi.from_file_of(line.encode()))
 
 
-# How many logs of each kind there are at least.
-FEWEST = 50
+# How many logs end in each way at least.
+FEWEST = 40
 
 
 def runs_of(program):
-    """A name, a log and how it is sent, of each; of the one without end, its first bytes."""
-    files = [(f'by hand: {name}', bytes.fromhex(digits)) for name, (digits, _) in BY_HAND.items()] + list(logs())
-    runs = [(name, log, lambda log=log: program.from_file_of(log)) for name, log in files]
-    runs += [(name, log, lambda pieces=pieces: program.from_pipe(*pieces)) for name, log, pieces in deliveries()]
-    runs.append(('pieces: bytes that go on, without end', b'\x80' * 8,
+    """The name, the log, what is due and how it is sent, of each; of the log without end, its first bytes."""
+    sent = [(f'by hand: {name}', bytes.fromhex(digits)) for name, (digits, _) in BY_HAND.items()] + list(logs())
+    sent = [(name, log, lambda log=log: program.from_file_of(log)) for name, log in sent]
+    sent += [(name, log, lambda pieces=pieces: program.from_pipe(*pieces)) for name, log, pieces in deliveries()]
+    sent.append(('pieces: bytes that go on, without end', b'\x80' * 8,
                  lambda: program.from_command('bash', '-c', r"tr '\0' '\200' </dev/zero")))
-    return runs
+    return [(name, log, Came(text_of(log), b'', 0), send) for name, log, send in sent]
 
 
 def main(arguments):
@@ -313,17 +313,17 @@ def main(arguments):
     tests, program, began = Tests(), Program([starter, readlog]), time.monotonic()
     check_reader(tests)
     runs = runs_of(program)
-    last_lines = collections.Counter(text_of(log).splitlines()[-1].partition(b' at ')[0].decode() for _, log, _ in runs)
-    tests.check('logs of every kind', len(last_lines) == 4 and min(last_lines.values()) >= FEWEST, str(last_lines))
-    parts = collections.Counter(name.partition(':')[0] for name, _, _ in runs)
-    for counted in (parts, last_lines):
+    ends = collections.Counter(due.output.splitlines()[-1].partition(b' at ')[0].decode() for _, _, due, _ in runs)
+    tests.check('logs that end in every way', len(ends) == 4 and min(ends.values()) >= FEWEST, str(ends))
+    parts = collections.Counter(name.partition(':')[0] for name, _, _, _ in runs)
+    for counted in (parts, ends):
         print(f'{len(runs)} logs: ' + ', '.join(f'{name} {count}' for name, count in counted.items()))
     not_run = Came(b'', b'', f'not run, as {MOST_HUNG} hung')
     with concurrent.futures.ThreadPoolExecutor(2) as pool:
         large = [(name, pool.submit(send_large, program, tail)) for name, tail in TAILS.items()]
-        answers = pool.map(lambda run: run[2]() if program.hung < MOST_HUNG else not_run, runs)
-        for (name, log, _), came in zip(runs, answers):
-            tests.check_run(name, log, Came(text_of(log), b'', 0), came)
+        answers = pool.map(lambda run: run[3]() if program.hung < MOST_HUNG else not_run, runs)
+        for (name, log, due, _), came in zip(runs, answers):
+            tests.check_run(name, log, due, came)
         for name, sent in large:
             size, due, came, seconds = sent.result()
             print(f'large: {name}: {size} bytes, {due.output} of text, in {seconds:.0f} s')
