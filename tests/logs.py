@@ -18,6 +18,7 @@ What is sent:
   offsets    reports of 40 bytes, the longest, which lie across the end of a buffer in every way
   random     random logs, whole, cut or damaged
   pieces     logs that arrive in pieces, each sent when all before it has been read; and one that never ends
+  failing    reads and writes that fail: one line on standard error says so, and no end or fault is printed
   large      100 MB, whole and with a fault in the last report; what comes is compared as it comes
   pmi        lines that readlog has printed, answered by pmi
 """
@@ -288,6 +289,30 @@ def check_pmi(tests, program, pmi):
         tests.check_run(f'pmi: {line}', line.encode(), answered(line.encode()), pmi.from_file_of(line.encode()))
 
 
+SAID = re.compile(rb'readlog: [a-z0-9 ]+\n')
+
+
+def check_failing(tests, program):
+    """Where a read or a write fails, the lines of whole reports that were read before may stand, and no other."""
+    report = log_of(TWELVE[0])
+    long = report * 20_000
+    failing = {
+        'standard input closed': program.without_input,
+        'standard input open for writing only': lambda: program.from_file('/dev/null', 'wb'),
+        'an error instead of a log': lambda: program.from_broken(b''),
+        'an error after a report': lambda: program.from_broken(report),
+        'an error inside a report': lambda: program.from_broken(report[:-1]),
+    }
+    for size, log in (('no log', b''), ('a report', report), ('a long log', long)):
+        failing[f'{size} to a full device'] = lambda log=log: program.into_file(log, '/dev/full')
+        failing[f'{size}, standard output closed'] = lambda log=log: program.without_output(log)
+        failing[f'{size}, standard output for reading only'] = lambda log=log: program.into_file(log, '/dev/null', 'rb')
+    for name, run in failing.items():
+        came = run()
+        tests.check(f'failing: {name}', came.output in (b'', text_of(report)[:-len('end\n')]) and came.status == 0
+                    and SAID.fullmatch(came.errors), str(came))
+
+
 # How many logs end in each way at least.
 FEWEST = 40
 
@@ -328,6 +353,7 @@ def main(arguments):
             size, due, came, seconds = sent.result()
             print(f'large: {name}: {size} bytes, {due.output} of text, in {seconds:.0f} s')
             tests.check(f'large: {name}', came == due, f'bytes of text, errors, status: {due}', f'as due up to {came}')
+    check_failing(tests, program)
     check_pmi(tests, program, Program([starter, pmi]))
     print(f'in all {time.monotonic() - began:.0f} s')
     return tests.report()
