@@ -230,23 +230,22 @@ static count logs[PARTS], steps[PARTS], outcomes[PARTS][OUTCOMES], failures[CHEC
 static int part, fault;
 static uint32_t deepest;
 
-static const char *print_step(step s) {
+static void print_step(const char *which, step s) {
     const aspenflick_report r = s.report;
-    printf("kind %u fault %u place %llu next %llu report %u %u %u %u %u %u %u %u", s.kind, s.fault, (count)s.place,
-           (count)s.next, r.n1, r.n2, r.mode, r.v, r.i11, r.i12, r.i13, r.i2);
-    return "";
+    printf("    %s kind %u, fault %u, place %llu, next %llu, report %u %u %u %u %u %u %u %u\n", which, s.kind, s.fault,
+           (count)s.place, (count)s.next, r.n1, r.n2, r.mode, r.v, r.i11, r.i12, r.i13, r.i2);
 }
 
 // Counts a check that fails. With a seeded fault nothing is printed.
 static void fail(int check, size_t from, step came, step due) {
     if (failures[check]++ || fault) return;
-    printf("%s: log %llu of %zu bytes, from %zu, fails `%s`\n    log", part_names[part], logs[part], len, from,
-           check_names[check]);
     size_t shown = len > MOST_BYTES && from < len ? from : 0;
+    printf("%s: log %llu of %zu bytes, from %zu, fails `%s`\n    its bytes from %zu on:", part_names[part], logs[part], len,
+           from, check_names[check], shown);
     for (size_t i = shown; i < len && i < shown + 2 * MOST_BYTES; i++) printf(" %02x", log[i]);
-    printf("%s\n    came ", shown + 2 * MOST_BYTES < len ? " .." : "");
-    printf("%s\n    due  ", print_step(came));
-    printf("%s\n", print_step(due));
+    printf("%s\n", shown + 2 * MOST_BYTES < len ? " .." : "");
+    print_step("came", came);
+    print_step("due ", due);
 }
 
 // A call of the library, of which some are measured, or of the reader with the fault.
