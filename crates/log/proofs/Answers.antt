@@ -7,6 +7,7 @@ use Rattle.groups.proofs.Unique.{one-fault}
 use Rattle.log.specs.declared.Answer.{Answer}
 use Rattle.log.specs.declared.Answer.the-variants.{Read, End, Faulty}
 use Rattle.log.specs.declared.LogStep.{LogStep}
+use Rattle.log.specs.declared.Taken.{Taken}
 use Rattle.log.specs.Answer.{isReport, stepOf}
 
 pub report-kind : (a : Answer) (next : ℕ) → isReport a ≡ true → stepOf a next .kind ≡ 0
@@ -23,6 +24,11 @@ pub step-next : (a : Answer) (next : ℕ) → next ≡ stepOf a next .next
 step-next (Read r) next = refl
 step-next End next = refl
 step-next (Faulty f) next = refl
+
+-- what is taken has the step of the case that it is
+pub in-case : {s : LogStep} (t : Taken) (a : Answer) → t .answer ≡ a → stepOf (t .answer) (t .next) ≡ s
+    → stepOf a (t .next) ≡ s
+in-case t a is e = sym (ap (λ (b : Answer). stepOf b (t .next)) is) ∙ e
 
 -- ---- one answer
 

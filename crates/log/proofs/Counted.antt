@@ -11,7 +11,6 @@ use Rattle.ground.proofs.Booleans.{either}
 use Rattle.report.specs.declared.Report.{Report}
 use Rattle.groups.specs.declared.Fault.{Fault}
 use Rattle.groups.specs.Given.{placeOf}
-use Rattle.log.specs.declared.Answer.{Answer}
 use Rattle.log.specs.declared.Answer.the-variants.{Read, Faulty}
 use Rattle.log.specs.declared.LogStep.{LogStep}
 use Rattle.log.specs.declared.Taken.{Taken}
@@ -19,6 +18,7 @@ use Rattle.log.specs.Log.{takes, stepAt}
 use Rattle.log.specs.Answer.{stepOf, placeAfter}
 use Rattle.groups.proofs.Bytes.{scan-bounds}
 use Rattle.groups.proofs.Faults.{scan-begun}
+use Rattle.log.proofs.Answers.{in-case}
 use Rattle.log.proofs.Taking.{step-end, step-begins, takes-by}
 
 -- a report takes a byte for each of its numbers, and ends within the log
@@ -87,19 +87,16 @@ module _ (log : List ℕ) (from : ℕ) where
 
 -- the same of what is taken at a place
 module _ (log : List ℕ) (at : ℕ) (t : Taken) (e : stepOf (t .answer) (t .next) ≡ stepAt log at) where
-  as-step : (a : Answer) → t .answer ≡ a → stepOf a (t .next) ≡ stepAt log at
-  as-step a is = sym (ap (λ (b : Answer). stepOf b (t .next)) is) ∙ e
-
   pub taken-report : (r : Report) → t .answer ≡ Read r → (at + 8 ≤ t .next) × (t .next ≤ length log)
   taken-report r is =
-      let step = as-step (Read r) is in
+      let step = in-case t (Read r) is e in
       let moves = report-moves log at (sym (ap (λ (s : LogStep). s .kind) step)) in
       let next = ap (λ (s : LogStep). s .next) step in
       (omega (arith, moves .0), omega (arith, moves .1))
 
   pub taken-fault : (f : Fault) → t .answer ≡ Faulty f → placeOf f ≤ length log
   taken-fault f is =
-      let step = as-step (Faulty f) is in
+      let step = in-case t (Faulty f) is e in
       let place = ap (λ (s : LogStep). s .place) step in
       omega (arith, fault-within log at (sym (ap (λ (s : LogStep). s .kind) step)))
 

@@ -3,8 +3,7 @@ use groups::Fault;
 use groups::Parsed;
 use report::Report;
 ghost use mathlib.Core.Path.{_≡_};
-ghost use Rattle.log.specs.Log.{endStep, faultStep, stepAt};
-ghost use Rattle.groups.specs.Given.{numberOf, placeOf};
+ghost use Rattle.log.specs.Log.{stepAt};
 ghost use Rattle.log.specs.Answer.{isReport, stepOf, Starts, Steps, Holds};
 
 // What a reader hands out: a report, the end, which stands between reports only, or what is wrong.
@@ -125,32 +124,6 @@ pub fn reports_in(log: &[u8]) -> Contents
     Contents { reports, last }
 }
 
-// The end, in numbers.
-fn end_step(at: u64) -> LogStep
-    ensures { λ s. ⌜ s ≡ endStep at ⌝ }
-{
-    LogStep {
-        kind: 1,
-        fault: 0,
-        place: 0,
-        next: at,
-        report: report::report_of([0; 8]),
-    }
-}
-
-// A fault, in numbers.
-fn fault_step(f: Fault, from: u64) -> LogStep
-    ensures { λ s. ⌜ s ≡ faultStep (numberOf f) (placeOf f) from ⌝ }
-{
-    LogStep {
-        kind: 2,
-        fault: f.number(),
-        place: f.place() as u64,
-        next: from,
-        report: report::report_of([0; 8]),
-    }
-}
-
 // What `taken_at` gives, in numbers.
 pub fn step_at(log: &[u8], from: usize) -> LogStep
     ensures { λ s. ⌜ s ≡ stepAt (now (log .entry)) from ⌝ }
@@ -158,6 +131,7 @@ pub fn step_at(log: &[u8], from: usize) -> LogStep
     let t = taken_at(log, from);
     let next = t.next as u64;
     let answer = t.answer;
+    let none = report::report_of([0; 8]);
     match answer {
         Answer::Read(r) => LogStep {
             kind: 0,
@@ -166,7 +140,19 @@ pub fn step_at(log: &[u8], from: usize) -> LogStep
             next,
             report: r,
         },
-        Answer::End => end_step(next),
-        Answer::Faulty(f) => fault_step(f, next),
+        Answer::End => LogStep {
+            kind: 1,
+            fault: 0,
+            place: 0,
+            next,
+            report: none,
+        },
+        Answer::Faulty(f) => LogStep {
+            kind: 2,
+            fault: f.number(),
+            place: f.place() as u64,
+            next,
+            report: none,
+        },
     }
 }
