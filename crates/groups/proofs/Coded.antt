@@ -1,19 +1,18 @@
 -- A number's code reads back as the number, and a number that is read stood there in its code.
 use mathlib.Core.Path.{_≡_, refl, sym, ap, _∙_}
-use mathlib.Core.Bool.{Bool, true, false, _&&_, true≢false}
+use mathlib.Core.Bool.{true, false, true≢false}
 use mathlib.Core.Logic.{_⊎_, inl, inr}
 use mathlib.Core.List.{List, [], _∷_, _++_}
 use Prim.Native.Nat.{ℕ, zero, suc, _+_, _*_, _/_, _%_, _^_, _<_, _≤_}
-use native.Mathlib.Nat.{pow-suc, pow-le-pow-right, add-mul, mul-assoc, mul-comm, add-assoc, div-add-mod'}
-use native.Mathlib.Numerals.{add-one}
+use native.Mathlib.Nat.{pow-suc, pow-le-pow-right, add-mul, mul-assoc, mul-comm, div-add-mod'}
 use native.Mathlib.Omega.{arith}
 use lib.Dec.{ltb, eqb}
 use lib.ListN.{length}
-use borrow.Author.Tests.{lt-ltb, le-ltb, ltb-true, ltb-false, eq-eqb, ne-eqb}
-use Rattle.ground.specs.Lists.{All, all-nil, all-cons}
-use Rattle.ground.proofs.Booleans.{either, and-true-left, and-true-right, and-nothing}
-use Rattle.groups.specs.Number.{value, fault, codeIn, isPadded, isLarge, scan}
-use Rattle.groups.specs.Relied.{Below, Shows, ends, padded, large}
+use borrow.Author.Tests.{lt-ltb, le-ltb, ltb-true, ltb-false, ne-eqb}
+use Rattle.ground.specs.Lists.{all-cons}
+use Rattle.ground.proofs.Booleans.{either, and-nothing}
+use Rattle.groups.specs.Number.{value, codeIn, isPadded, isLarge, scan}
+use Rattle.groups.specs.Relied.{Below, large}
 use Rattle.groups.proofs.Bytes.{fifth-small, pow-next}
 
 -- a byte that is not zero pads nothing; nor does the first
@@ -83,7 +82,8 @@ more-bytes k i n s at bs e h t then =
     let sum : s + n % 128 * 128 ^ i + n / 128 * 128 ^ (i + 1) ≡ s + n * 128 ^ i = rw (pow-next i) (groups s n (128 ^ i)) in
     let place : at + 1 + length (codeIn k (n / 128)) ≡ at + suc (length (codeIn k (n / 128))) = omega arith in
     rw (code-more k n t)
-    (byte-more i s at (128 + n % 128) _ (not-padded i (128 + n % 128) (inr (omega arith))) (not-large i (128 + n % 128) not-fifth) (omega arith)
+    (byte-more i s at (128 + n % 128) _ (not-padded i (128 + n % 128) (inr (omega arith)))
+    (not-large i (128 + n % 128) not-fifth) (omega arith)
     ∙ rw low (then ∙ rw (sum, place)))
 
 scan-code : (k i n s at : ℕ) (bs : List ℕ) → i + k ≡ 5 → 8 * n < 128 ^ k → (i ≡ 0) ⊎ (0 < n)

@@ -1,14 +1,14 @@
 -- A number that breaks off: its bytes up to the fault have their top bits set, and the fault is the one that they show.
 use mathlib.Core.Path.{_≡_, refl, sym, ap, _∙_}
-use mathlib.Core.Bool.{Bool, true, false, _&&_}
-use mathlib.Core.Logic.{_⊎_, inl, inr}
+use mathlib.Core.Bool.{false}
+use mathlib.Core.Logic.{inr}
 use mathlib.Core.List.{List, [], _∷_, _++_}
-use Prim.Native.Nat.{ℕ, zero, suc, _+_, _<_, _≤_}
+use Prim.Native.Nat.{ℕ, suc, _+_, _<_, _≤_}
 use native.Mathlib.Nat.{add-zero}
 use native.Mathlib.Omega.{arith}
 use lib.Dec.{ltb, eqb}
 use lib.ListN.{length}
-use borrow.Author.Tests.{lt-ltb, le-ltb, ltb-true, ltb-false, eqb-true, eq-eqb}
+use borrow.Author.Tests.{lt-ltb, ltb-true, ltb-false, eqb-true, eq-eqb}
 use Rattle.ground.specs.Lists.{All, all-nil, all-cons}
 use Rattle.ground.proofs.Booleans.{either, and-true-left, and-true-right}
 use Rattle.groups.specs.Number.{fault, isPadded, isLarge, scan}
@@ -98,6 +98,7 @@ pub begun-scans : (begun : List ℕ) (i s at : ℕ) {k j : ℕ} {bs : List ℕ} 
 begun-scans [] i s at e all-nil s′ = rw (add-zero at) (shown i s at (omega arith) s′)
 begun-scans (b ∷ begun) i s at {k} {j} {bs} e (all-cons top topped) s′ =
     let few = shows-few s′ in
-    let step = byte-more i s at b (begun ++ bs) (not-padded i b (inr (omega arith))) (not-large i b (λ four. absurd (omega arith))) top in
+    let step = byte-more i s at b (begun ++ bs) (not-padded i b (inr (omega arith)))
+    (not-large i b (λ four. absurd (omega arith))) top in
     let place : at + 1 + length begun ≡ at + suc (length begun) = omega arith in
     step ∙ begun-scans begun (i + 1) _ (at + 1) (omega arith) topped s′ ∙ rw place

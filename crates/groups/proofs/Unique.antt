@@ -7,7 +7,6 @@ use Rattle.groups.specs.declared.Fault.{Fault}
 use Rattle.groups.specs.declared.Fault.the-variants.{Ends, Padded, Large}
 use Rattle.groups.specs.declared.Parsed.{Parsed}
 use Rattle.groups.specs.declared.Parsed.the-variants.{Number, Broken}
-use Rattle.groups.specs.Number.{value, fault}
 use Rattle.groups.specs.Given.{numberOf, placeOf, foundOf}
 use Rattle.groups.proofs.Fault.number.Reads as number
 use Rattle.groups.proofs.Fault.place.Reads as place

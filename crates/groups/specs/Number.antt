@@ -1,5 +1,5 @@
--- A number: groups of seven bits, lowest group first, the top bit of a byte set when another follows; shortest
--- form only, at most 32 bits.
+-- A number: groups of seven bits, lowest group first, the top bit of a byte set when another follows; shortest form only,
+-- at most 32 bits.
 use mathlib.Core.Bool.{Bool, _&&_}
 use mathlib.Core.List.{List, [], _∷_}
 use Prim.Native.Nat.{ℕ, zero, suc, _+_, _*_, _/_, _%_, _^_}

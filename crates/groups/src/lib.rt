@@ -5,7 +5,7 @@ ghost use Rattle.groups.specs.Given.{numberOf, placeOf, foundOf};
 
 // What is wrong with a number, and the place of the byte that shows it.
 pub enum Fault {
-    // The bytes end inside it, or before it; the place is their number.
+    // The bytes end inside it, or before it; the place is that of the byte that is missing.
     Ends(usize),
     // It has several bytes, and the last is zero.
     Padded(usize),
@@ -43,7 +43,7 @@ impl Fault {
     }
 }
 
-// Whether a byte that so many others of its number stand before is a last byte of several and zero.
+// Whether a byte, after i others of its number, is the last of several and zero.
 fn is_padded(i: u32, b: u8) -> bool
     ensures { λ t. ⌜ t ≡ isPadded i b ⌝ }
 {
@@ -53,7 +53,7 @@ fn is_padded(i: u32, b: u8) -> bool
     b == 0
 }
 
-// Whether it is a fifth byte and above 15.
+// Whether it is the fifth and above 15.
 fn is_large(i: u32, b: u8) -> bool
     ensures { λ t. ⌜ t ≡ isLarge i b ⌝ }
 {

@@ -1,7 +1,7 @@
 -- The reports of a whole log: where each step starts, and why they come to an end.
 use mathlib.Core.Path.{_≡_, refl, sym, ap, _∙_}
-use mathlib.Core.List.{List, [], _∷_, _++_}
-use Prim.Native.Nat.{ℕ, zero, suc, _+_, _<_, _≤_}
+use mathlib.Core.List.{List, []}
+use Prim.Native.Nat.{ℕ, _+_, _<_, _≤_}
 use native.Mathlib.Numerals.{add-one}
 use native.Mathlib.Omega.{arith}
 use lib.Dec.{ltb}
@@ -11,13 +11,13 @@ use Rattle.ground.proofs.Booleans.{either}
 use Rattle.report.specs.declared.Report.{Report}
 use Rattle.groups.specs.declared.Fault.{Fault}
 use Rattle.groups.specs.Given.{placeOf}
+use Rattle.groups.proofs.Bytes.{scan-bounds}
+use Rattle.groups.proofs.Faults.{scan-begun}
 use Rattle.log.specs.declared.Answer.the-variants.{Read, Faulty}
 use Rattle.log.specs.declared.LogStep.{LogStep}
 use Rattle.log.specs.declared.Taken.{Taken}
 use Rattle.log.specs.Log.{takes, stepAt}
 use Rattle.log.specs.Answer.{stepOf, placeAfter}
-use Rattle.groups.proofs.Bytes.{scan-bounds}
-use Rattle.groups.proofs.Faults.{scan-begun}
 use Rattle.log.proofs.Answers.{in-case}
 use Rattle.log.proofs.Taking.{step-end, step-begins, takes-by}
 
@@ -60,7 +60,8 @@ module _ (log : List ℕ) (from : ℕ) where
       rw begins
       (takes-by log from Within
       (λ got at within report. absurd (omega arith))
-      (λ left got at n next s found rest within. rest (omega (arith, scan-bounds (drop at log) 0 0 at found .within, length-drop at log)))
+      (λ left got at n next s found rest within. rest
+      (omega (arith, scan-bounds (drop at log) 0 0 at found .within, length-drop at log)))
       (λ left got at k p found within fault.
       let b = scan-begun (drop at log) 0 0 at (omega arith) found in
       let long = ap length (b .bytes) ∙ length-append (b .begun) (b .rest) in

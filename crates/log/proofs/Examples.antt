@@ -1,7 +1,6 @@
 -- Worked examples: a report, the number 200, and each fault on both sides of its bound.
 use mathlib.Core.Path.{_≡_, refl}
-use mathlib.Core.List.{List, [], _∷_}
-use Prim.Native.Nat.{ℕ}
+use mathlib.Core.List.{[], _∷_}
 use Rattle.ground.specs.Lists.{join}
 use Rattle.report.specs.declared.Report.{Report}
 use Rattle.groups.specs.Number.{value, fault, codeIn, code, isPadded, isLarge, scan, numberAt}

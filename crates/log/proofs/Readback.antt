@@ -1,15 +1,15 @@
 -- Reports that are written one after the other read back, and a log that is read to its end is what its reports are written
 -- as.
-use mathlib.Core.Path.{_≡_, refl, sym, ap, _∙_}
+use mathlib.Core.Path.{_≡_, refl, ap, _∙_}
 use mathlib.Core.List.{List, [], _∷_, _++_}
-use Prim.Native.Nat.{ℕ, _+_, _≤_}
+use Prim.Native.Nat.{ℕ, _+_}
 use native.Mathlib.Omega.{arith}
 use lib.ListN.{length, drop, length-drop, drop-of-length-le}
 use Rattle.ground.specs.Lists.{join}
 use Rattle.report.specs.declared.Report.{Report}
-use Rattle.log.specs.declared.LogStep.{LogStep}
-use Rattle.log.specs.Log.{coded, logOf, stepAt}
 use Rattle.groups.specs.Relied.{Below}
+use Rattle.log.specs.declared.LogStep.{LogStep}
+use Rattle.log.specs.Log.{coded, logOf}
 use Rattle.log.specs.Relied.{Stands, tells-report, HandsOut, no-more, one-and, AllFit}
 use Rattle.log.proofs.Taking.{step-end}
 use Rattle.log.proofs.Told.{behind, tells-step, report-stands, end-past}

@@ -2,7 +2,6 @@
 use mathlib.Core.Path.{_≡_, refl, sym, ap, _∙_}
 use mathlib.Core.Bool.{false, true≢false}
 use mathlib.Core.List.{List, [], _∷_}
-use Prim.Native.Nat.{ℕ}
 use denote.Ref.{now}
 use lib.ListN.{length, replicate}
 use Rattle.log.specs.declared.Answer.{Answer}
@@ -20,7 +19,8 @@ no-report-leaves : {was is : Reader} {a : Answer} → isReport a ≡ false → S
 no-report-leaves {was} {is} {a} over p =
     let none : stepAt (now (was .log)) (was .at) .kind ≡ 0 → ⊥ = λ e.
     true≢false (sym (kind-report a (is .at) (ap (λ (s : LogStep). s .kind) (p .gives) ∙ e)) ∙ over) in
-    let at = step-next a (is .at) ∙ ap (λ (s : LogStep). s .next) (p .gives) ∙ no-report-stays (now (was .log)) (was .at) none in
+    let at = step-next a (is .at) ∙ ap (λ (s : LogStep). s .next) (p .gives) ∙ no-report-stays (now (was .log))
+    (was .at) none in
     λ i. record { log = p .stays i; at = at i }
 
 again : {was then : Reader} {a : Answer} (more : List Answer) → Steps was a was → Runs was more then

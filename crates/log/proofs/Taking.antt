@@ -8,10 +8,10 @@ use lib.ListN.{length, take, drop, set, length-drop}
 use lib.Seq.{take-all, take-suc-set}
 use borrow.Author.Tests.{lt-ltb, le-ltb}
 use Rattle.report.specs.Numbers.{reportOf}
-use Rattle.log.specs.declared.LogStep.{LogStep}
 use Rattle.groups.specs.Number.{Found, value, fault, numberAt}
-use Rattle.log.specs.Log.{reportStep, endStep, faultStep, after, takes, stepAt}
 use Rattle.groups.proofs.Bytes.{scan-bounds}
+use Rattle.log.specs.declared.LogStep.{LogStep}
+use Rattle.log.specs.Log.{reportStep, endStep, faultStep, after, takes, stepAt}
 
 module _ (log : List ℕ) (at : ℕ) where
   pub step-end : length log ≤ at → stepAt log at ≡ endStep at

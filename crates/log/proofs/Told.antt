@@ -14,13 +14,13 @@ use Rattle.ground.proofs.Booleans.{either}
 use Rattle.report.specs.declared.Report.{Report}
 use Rattle.report.specs.Numbers.{valuesOf, reportOf}
 use Rattle.report.proofs.Numbers.{values-of-eight}
-use Rattle.log.specs.declared.LogStep.{LogStep}
-use Rattle.groups.specs.Number.{value, fault, codeIn, code, numberAt}
-use Rattle.log.specs.Log.{coded, reportStep, faultStep, after, takes, stepAt}
+use Rattle.groups.specs.Number.{value, fault, code, numberAt}
 use Rattle.groups.specs.Relied.{Below, Shows}
-use Rattle.log.specs.Relied.{Stands, Breaks, Tells, tells-report, tells-end, tells-fault}
 use Rattle.groups.proofs.Coded.{number-reads, scan-stood, code-some}
 use Rattle.groups.proofs.Faults.{scan-begun, begun-scans}
+use Rattle.log.specs.declared.LogStep.{LogStep}
+use Rattle.log.specs.Log.{coded, reportStep, faultStep, after, takes, stepAt}
+use Rattle.log.specs.Relied.{Stands, Breaks, Tells, tells-report, tells-end, tells-fault}
 use Rattle.log.proofs.Taking.{step-end, step-begins, takes-fault, takes-by}
 
 below-drop : {bound : ℕ} (xs : List ℕ) (n : ℕ) → Below bound xs → Below bound (drop n xs)
@@ -180,11 +180,13 @@ module _ (log : List ℕ) (from : ℕ) where
       → drop at log ≡ along ns code ++ bs → Below (2 ^ 32) ns
       → takes log from count got at ≡ takes log from left (got ++ ns) (at + length (along ns code))
   unfolding join takes after
-  takes-over [] count left got at bs c e fit = let same : count ≡ left = omega arith in rw (same, append-nil got, add-zero at)
+  takes-over [] count left got at bs c e fit = let same : count ≡ left = omega arith in rw
+      (same, append-nil got, add-zero at)
   takes-over (n ∷ ns) count left got at bs c e (all-cons small fit) =
       let one-more : count ≡ suc (length ns + left) = omega arith in
       let here : drop at log ≡ code n ++ (along ns code ++ bs) = e ∙ append-assoc (code n) (along ns code) bs in
-      let found : numberAt log at ≡ value n (at + length (code n)) = rw here (number-reads n at (along ns code ++ bs) small) in
+      let found : numberAt log at ≡ value n (at + length (code n)) = rw here
+      (number-reads n at (along ns code ++ bs) small) in
       let next = behind log (code n) (along ns code ++ bs) at (at + length (code n)) here refl in
       let place : at + length (code n) + length (along ns code) ≡ at + length (code n ++ along ns code) =
       rw length-append (omega arith) in

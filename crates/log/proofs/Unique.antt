@@ -15,7 +15,7 @@ use Rattle.log.specs.declared.Contents.{Contents}
 use Rattle.log.specs.declared.LogStep.{LogStep}
 use Rattle.log.specs.declared.Reader.{Reader}
 use Rattle.log.specs.declared.Taken.{Taken}
-use Rattle.log.specs.Answer.{stepOf, isReport, Starts, Steps, Holds}
+use Rattle.log.specs.Answer.{stepOf, Starts, Steps, Holds}
 use Rattle.log.proofs.Answers.{one-answer, one-next, kind-report}
 use Rattle.log.proofs.taken_at.Reads as taken-at
 use Rattle.log.proofs.reports_in.Reads as reports-in
@@ -37,14 +37,16 @@ step-at-unique k a r r′ e e′ p q = p ∙ sym q
 not-fewer : {log : List ℕ} {c d : Contents} → Holds log c → Holds log d → c .reports < d .reports → ⊥
 not-fewer {log} {c} {d} p q h =
     true≢false
-    (sym (kind-report (c .last .answer) (c .last .next) (ap (λ (s : LogStep). s .kind) (p .then) ∙ q .before (c .reports) h))
+    (sym
+    (kind-report (c .last .answer) (c .last .next) (ap (λ (s : LogStep). s .kind) (p .then) ∙ q .before (c .reports) h))
     ∙ p .over)
 
 one-holds : {log : List ℕ} {c d : Contents} → Holds log c → Holds log d → c ≡ d
 one-holds {log} {c} {d} p q =
     either (ltb (c .reports) (d .reports)) (λ t. absurd (not-fewer p q (ltb-true _ _ t))) (λ t.
     either (ltb (d .reports) (c .reports)) (λ u. absurd (not-fewer q p (ltb-true _ _ u))) (λ u.
-    let same : c .reports ≡ d .reports = omega (arith, ltb-false (c .reports) (d .reports) t, ltb-false (d .reports) (c .reports) u) in
+    let same : c .reports ≡ d .reports = omega
+    (arith, ltb-false (c .reports) (d .reports) t, ltb-false (d .reports) (c .reports) u) in
     let last = one-taken (p .then ∙ rw same (sym (q .then))) in
     λ i. record { reports = same i; last = last i }))
 

@@ -1,22 +1,20 @@
 -- A part of a log: a step needs forty bytes at most, so what is read from a part that has so many, or all that are left, is
 -- the step of the log.
 use mathlib.Core.Path.{_≡_, refl, sym, ap, _∙_}
-use mathlib.Core.Bool.{true, false}
 use mathlib.Core.Logic.{_⊎_, inl, inr}
-use mathlib.Core.List.{List, [], _∷_, _++_}
+use mathlib.Core.List.{List, [], _∷_}
 use Prim.Native.Nat.{ℕ, zero, suc, _+_, _-_, _*_, _%_, _^_, _<_, _≤_}
-use native.Mathlib.Nat.{add-zero, add-assoc}
 use native.Mathlib.Omega.{arith}
 use lib.Dec.{ltb}
 use lib.ListN.{length, take, drop, length-take, length-drop}
 use lib.Seq.{take-all, take-nil, drop-drop}
 use borrow.Author.Tests.{ltb-true, ltb-false}
 use Rattle.ground.proofs.Booleans.{either}
-use Rattle.log.specs.declared.LogStep.{LogStep}
 use Rattle.groups.specs.Number.{Found, value, fault, isPadded, isLarge, scan, numberAt}
-use Rattle.log.specs.Log.{reportStep, endStep, faultStep, after, takes, stepAt}
-use Rattle.log.specs.Relied.{movedBy}
 use Rattle.groups.proofs.Bytes.{not-fifth, scan-bounds}
+use Rattle.log.specs.declared.LogStep.{LogStep}
+use Rattle.log.specs.Log.{after, takes, stepAt}
+use Rattle.log.specs.Relied.{movedBy}
 use Rattle.log.proofs.Taking.{step-end, step-begins, takes-by}
 
 -- ---- bytes after the last that is looked at
@@ -46,7 +44,8 @@ drop-take (suc m) (suc n) (x ∷ xs) h =
 module _ (log : List ℕ) (n : ℕ) where
   number-front : (at : ℕ) → at + 5 ≤ n → numberAt (take n log) at ≡ numberAt log at
   number-front at h =
-      ap (scan 0 0 at) (drop-take at n log (omega arith)) ∙ scan-front (n - at) (drop at log) 0 0 at (omega arith) (omega arith)
+      ap (scan 0 0 at) (drop-take at n log (omega arith)) ∙ scan-front (n - at) (drop at log) 0 0 at (omega arith)
+      (omega arith)
 
   takes-front : (from left : ℕ) (got : List ℕ) (at : ℕ) → at + 5 * left ≤ n
       → takes (take n log) from left got at ≡ takes log from left got at
@@ -58,7 +57,8 @@ module _ (log : List ℕ) (n : ℕ) where
       (λ left got at k next s found rest h.
       let b = scan-bounds (drop at log) 0 0 at found .five (omega arith) in
       ap (after (takes (take n log) from left) from got) (number-front at (omega arith) ∙ found) ∙ rest (omega arith))
-      (λ left got at k p found h. ap (after (takes (take n log) from left) from got) (number-front at (omega arith) ∙ found))
+      (λ left got at k p found h. ap (after (takes (take n log) from left) from got)
+      (number-front at (omega arith) ∙ found))
 
   step-front : (at : ℕ) → at + 40 ≤ n → stepAt (take n log) at ≡ stepAt log at
   step-front at h =

@@ -4,12 +4,12 @@ use mathlib.Core.Bool.{Bool, true, false}
 use mathlib.Core.List.{List}
 use Prim.Native.Nat.{ℕ, zero, suc, _<_}
 use denote.Ref.{RefT, now}
+use Rattle.groups.specs.Given.{numberOf, placeOf}
 use Rattle.log.specs.declared.Answer.{Answer}
 use Rattle.log.specs.declared.Answer.the-variants.{Read, End, Faulty}
 use Rattle.log.specs.declared.Contents.{Contents}
 use Rattle.log.specs.declared.LogStep.{LogStep}
 use Rattle.log.specs.declared.Reader.{Reader}
-use Rattle.groups.specs.Given.{numberOf, placeOf}
 use Rattle.log.specs.Log.{reportStep, endStep, faultStep, stepAt}
 
 abbrev pub stepOf : Answer → ℕ → LogStep

@@ -1,4 +1,5 @@
--- What can be relied on of every log: what a step tells of its bytes, which reports are handed out, and what a reader's calls
+-- What can be relied on of every log: what a step tells of its bytes, which reports are handed out, and what a reader's
+-- calls
 -- give.
 use mathlib.Core.Path.{_≡_}
 use mathlib.Core.List.{List, [], _∷_, _++_}
@@ -9,11 +10,11 @@ use Rattle.ground.specs.Cases.{_⇒_∣_}
 use Rattle.ground.specs.Lists.{along, All}
 use Rattle.report.specs.declared.Report.{Report}
 use Rattle.report.specs.Numbers.{valuesOf}
+use Rattle.groups.specs.Number.{code}
+use Rattle.groups.specs.Relied.{Below, Shows}
 use Rattle.log.specs.declared.Answer.{Answer}
 use Rattle.log.specs.declared.LogStep.{LogStep}
 use Rattle.log.specs.declared.Reader.{Reader}
-use Rattle.groups.specs.Number.{code}
-use Rattle.groups.specs.Relied.{Below, Shows}
 use Rattle.log.specs.Log.{coded, reportStep, endStep, faultStep, stepAt}
 use Rattle.log.specs.Answer.{Steps}
 

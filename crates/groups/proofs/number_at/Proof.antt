@@ -1,7 +1,7 @@
 -- `number_at` meets its contract: at each turn the bytes that are left complete what is found.
 --
-use mathlib.Core.Path.{_≡_, refl, sym, ap, _∙_}
-use mathlib.Core.Bool.{true, false}
+use mathlib.Core.Path.{_≡_, refl, sym, _∙_}
+use mathlib.Core.Bool.{false}
 use Prim.Native.Nat.{ℕ, _+_, _-_, _*_, _%_, _^_, _<_, _≤_}
 use native.Mathlib.Omega.{arith}
 use lib.ListN.{length, drop, getD}
@@ -10,8 +10,6 @@ use Rattle.groups.specs.Number.{isPadded, isLarge, scan, numberAt}
 use Rattle.groups.proofs.Bytes.{scan-ends, scan-padded, scan-large, scan-last, scan-more, group-fits, Goes, goes-on}
 use Rattle.groups.proofs.number_at.Statement.{statement}
 use Rattle.groups.proofs.number_at.Tie as tie
-use Rattle.groups.proofs.number_at.Reads as reads
-use Rattle.groups.proofs.number_at.Lts as lts
 
 abbrev Inv-loop : tie.InvT-loop
 Inv-loop bytes from value₀ weight₀ i₀ at₀ value weight i at =
@@ -98,7 +96,8 @@ returns-3 c =
     let bytes = t .before .before .args .bytes .now in
     rw (l .inv .1)
     (sym
-    (scan-last bytes (l .i) (l .value) (l .at) (omega arith) (padded-not (c .before)) (large-not (c .before)) (c .if3 .taken))
+    (scan-last bytes (l .i) (l .value) (l .at) (omega arith) (padded-not (c .before)) (large-not (c .before))
+    (c .if3 .taken))
     ∙ l .inv .3)
 
 mul-weight : tie.Need-mul-weight Inv-loop μ-loop
@@ -122,7 +121,8 @@ loop-again c =
       rw (l .inv .1) (goes c .small),
       rw (l .inv .1)
           (sym
-          (scan-more bytes (l .i) (l .value) (l .at) (omega arith) (padded-not (c .before)) (large-not (c .before)) (c .if3 .left))
+          (scan-more bytes (l .i) (l .value) (l .at) (omega arith) (padded-not (c .before)) (large-not (c .before))
+          (c .if3 .left))
           ∙ l .inv .3),
     )
 

@@ -1,9 +1,8 @@
 -- `reports_in` meets its contract: at each turn so many steps are reports, and what is held is the next.
-use mathlib.Core.Path.{_≡_, refl, sym, ap, _∙_}
+use mathlib.Core.Path.{_≡_, sym, ap, _∙_}
 use Prim.Native.Nat.{_-_}
 use native.Mathlib.Omega.{arith}
 use lib.ListN.{length}
-use borrow.Author.Needs.{needs}
 use Rattle.log.specs.declared.LogStep.{LogStep}
 use Rattle.log.specs.Log.{stepAt}
 use Rattle.log.specs.Answer.{stepOf, placeAfter}

@@ -1,5 +1,4 @@
 -- `step_at` meets its contract: each case of the answer has its step.
-use mathlib.Core.Path.{_∙_}
 use borrow.Author.Needs.{needs}
 use Rattle.log.proofs.Answers.{in-case}
 use Rattle.log.proofs.step_at.Statement.{statement}

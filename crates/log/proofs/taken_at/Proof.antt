@@ -4,8 +4,8 @@ use Prim.Native.Nat.{_-_, _≤_}
 use native.Mathlib.Omega.{arith}
 use lib.ListN.{length, take, length-set}
 use borrow.Author.Needs.{needs}
-use Rattle.log.specs.Log.{takes, stepAt}
 use Rattle.groups.specs.Given.{foundOf}
+use Rattle.log.specs.Log.{takes, stepAt}
 use Rattle.log.proofs.Taking.{step-end, step-begins, number-within, takes-fault, takes-all, takes-stored}
 use Rattle.log.proofs.taken_at.Statement.{statement}
 use Rattle.log.proofs.taken_at.Tie as tie

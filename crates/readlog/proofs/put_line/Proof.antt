@@ -17,8 +17,12 @@ returns c =
     let answer = c .before .before .before .before .before .answer .given .1 in
     let t = c .before .before .before .before .before .before .before in
     let ends = taken-report _ _ (t .taken-at .result) (t .taken-at .ensures) _ answer in
-    let held = slice-aggregate-taken-at (t .before) in
-    (omega (arith, written-within _ _ (line .ensures), line .kept .1 .0), omega (arith, ends .0), omega (arith, ends .1, held))
+    let held = slice-aggregate-taken-at (t .before) in (
+      omega (arith, written-within _ _ (line .ensures), line .kept .1 .0),
+      omega (arith, ends .0),
+      omega
+          (arith, ends .1, held),
+    )
 
 pub put-line-spec : {M : Type 1} → statement M
 put-line-spec =
