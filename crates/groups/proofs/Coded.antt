@@ -12,7 +12,7 @@ use borrow.Author.Tests.{lt-ltb, le-ltb, ltb-true, ltb-false, ne-eqb}
 use Rattle.ground.specs.Lists.{all-cons}
 use Rattle.ground.proofs.Booleans.{either, and-nothing}
 use Rattle.groups.specs.Number.{value, codeIn, isPadded, isLarge, scan}
-use Rattle.groups.specs.Relied.{Below, large}
+use Rattle.groups.specs.Relied.{Below}
 use Rattle.groups.proofs.Bytes.{fifth-small, pow-next}
 
 -- a byte that is not zero pads nothing; nor does the first

@@ -169,10 +169,7 @@ module _ {M : Type 1} (𝓤 : URA M) (H : Heap 𝓤) (A : Atoms 𝓤) (W : Given
   again r fits = qed W (‵ Own ∷ []) ∵ owned ! usize (Is usize) (uint-makes 𝓤 H A W w64) (r .next) _ (refl, fits) $
       move ! (1 ∷ 0 ∷ []) $ by ! (own-put 𝓤 H A W D L 1 vh (r .next) mach)
 
-  -- the values in MIR of what is taken and of its answer
-  abbrev taken : Taken → Val
-  taken r = LL.val S.the-type S′.the-laws r
-
+  -- the value in MIR of an answer
   abbrev answer : Taken → Val
   answer r = EL.val E.the-type E′.the-laws (r .answer)
 
@@ -192,6 +189,7 @@ module _ {M : Type 1} (𝓤 : URA M) (H : Heap 𝓤) (A : Atoms 𝓤) (W : Given
 
   module _ (C : Calls 𝓤 H) (Λ : Loops 𝓤 H) (fm : FmC 𝓤 H (W .laws) C)
       (known : Triple 𝓤 (C #log·taken-at) (TakenAt 𝓤 H A at-mem run)) where
+    -- the steps: _3 = (*_1).0; _4 = (*_1).1; _2 = taken_at(_3, _4); (*_1).1 = _2.1; _0 = _2.0
     walk : ent 𝓤 (onEntry 𝓤 H A next.signature (κ, (κ′, tt)) (q, (q′, tt)) x at)
         (WpFn 𝓤 H C Λ code.function (vptr b o ∷ []) Post)
     walk =
