@@ -4,7 +4,7 @@
     logs.py STARTER READLOG PMI    test; STARTER starts either program
 
 The last line is `N passed, M failed`; the exit status is 0 only if N is above 0 and M is 0, and 2 for wrong words.
-Needs Python 3.9; takes about forty seconds. tests/readlog starts this.
+Needs Python 3.9; takes about half a minute. tests/readlog starts this.
 
 The reader here is a grammar: a number is one of three forms of bytes, a report eight of them, and what stands behind the
 last number that can be read has exactly one of the forms that are faults. It is held against logs that are read by hand.
@@ -19,7 +19,7 @@ What is sent:
   random     random logs, whole, cut or damaged
   pieces     logs that arrive in pieces, each sent when all before it has been read; and one that never ends
   failing    reads and writes that fail: one line on standard error says so, and no end or fault is printed
-  large      100 MB, whole and with a fault in the last report; what comes is compared as it comes
+  large      100 MB, and 10 MB with a fault in the last report; what comes is compared as it comes
   pmi        lines that readlog has printed, answered by pmi
 """
 
@@ -87,7 +87,7 @@ def log_of(*reports):
 # A log in hexadecimal, and its text.
 BY_HAND = {
     'nothing': ('', 'end'),
-    'case 1 of 01': ('02 01 01 01 01 00 00 01', '2 1 1 1 1 0 0 1, end'),
+    'the first worked report': ('02 01 01 01 01 00 00 01', '2 1 1 1 1 0 0 1, end'),
     '200 and the largest number': ('C8 01 00 00 00 00 00 00 FF FF FF FF 0F', '200 0 0 0 0 0 0 4294967295, end'),
     'the last number of one byte, the first of two': ('7F 80 01 00 00 00 00 00 00', '127 128 0 0 0 0 0 0, end'),
     'two reports': ('01 02 03 04 05 06 07 08' * 2, '1 2 3 4 5 6 7 8, 1 2 3 4 5 6 7 8, end'),
@@ -201,8 +201,8 @@ def deliveries():
 
 # ---- The large log ----------------------------------------------------------------------------------------------------
 
-# What is sent at least, what of it is repeated and what is read at a time, in bytes; after so many seconds it hangs.
-LARGE, BLOCK, CHUNK, SECONDS = 100_000_000, 1_000_000, 1 << 16, 300
+# What is repeated and what is read at a time, in bytes; after so many seconds it hangs.
+BLOCK, CHUNK, SECONDS = 1_000_000, 1 << 16, 300
 
 
 def large_block():
@@ -224,15 +224,16 @@ def text_behind(before, log):
     return ''.join(line + '\n' for line in (*reports, ' '.join(words))).encode()
 
 
-# What stands behind the blocks: nothing, or two reports of which the last has a padded number.
-TAILS = {'whole': b'', 'a fault in the last report': log_of(*LONGEST)[:-1] + b'\0'}
+# How many bytes of blocks are sent at least, and what stands behind them: nothing, or two reports of which the last has a
+# padded number.
+LARGE = {'whole': (100_000_000, b''), 'a fault in the last report': (10_000_000, log_of(*LONGEST)[:-1] + b'\0')}
 
 
-def send_large(program, tail):
+def send_large(program, least, tail):
     """Sends the block again and again, and then the tail. Gives how many bytes that is, what is due and what came, in place
     of the output how many bytes are as due, and the seconds."""
     block, began = large_block(), time.monotonic()
-    times, text = LARGE // len(block) + 1, text_of(block)[:-len('end\n')]
+    times, text = least // len(block) + 1, text_of(block)[:-len('end\n')]
     ending = text_behind(times * len(block), tail)
     twice, whole, seen = text + text, times * len(text), 0
     process = program.start(subprocess.PIPE)
@@ -345,7 +346,7 @@ def main(arguments):
         print(f'{len(runs)} logs: ' + ', '.join(f'{name} {count}' for name, count in counted.items()))
     not_run = Came(b'', b'', f'not run, as {MOST_HUNG} hung')
     with concurrent.futures.ThreadPoolExecutor(2) as pool:
-        large = [(name, pool.submit(send_large, program, tail)) for name, tail in TAILS.items()]
+        large = [(name, pool.submit(send_large, program, *sent)) for name, sent in LARGE.items()]
         answers = pool.map(lambda run: run[3]() if program.hung < MOST_HUNG else not_run, runs)
         for (name, log, due, _), came in zip(runs, answers):
             tests.check_run(name, log, due, came)

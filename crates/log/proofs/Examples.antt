@@ -1,10 +1,16 @@
--- Worked examples: a report, the number 200, and each fault on both sides of its bound.
+-- Worked examples: a report, the number 200, each fault on both sides of its bound, and calls that repeat one.
 use mathlib.Core.Path.{_≡_, refl}
 use mathlib.Core.List.{[], _∷_}
+use denote.Ref.{now}
 use Rattle.ground.specs.Lists.{join}
 use Rattle.report.specs.declared.Report.{Report}
 use Rattle.groups.specs.Number.{value, fault, codeIn, code, isPadded, isLarge, scan, numberAt}
+use Rattle.groups.specs.declared.Fault.the-variants.{Padded}
+use Rattle.log.specs.declared.Answer.the-variants.{Faulty}
+use Rattle.log.specs.declared.Reader.{Reader}
 use Rattle.log.specs.Log.{coded, reportStep, endStep, faultStep, after, takes, stepAt}
+use Rattle.log.specs.Answer.{Steps}
+use Rattle.log.specs.Relied.{Runs, no-call, call-and}
 
 -- (2,1) with mode 1, one layer, i11 = 1, i2 = 1 and the rest 0
 abbrev pub firstReport : Report
@@ -65,3 +71,13 @@ past-the-end = refl
 pub cut-between-numbers : stepAt (2 ∷ 1 ∷ []) 0 ≡ faultStep 1 2 0
 unfolding stepAt takes after scan isPadded isLarge
 cut-between-numbers = refl
+
+-- ---- calls
+
+-- three calls of a reader at a padded zero
+pub three-calls : (r : Reader) → now (r .log) ≡ 128 ∷ 0 ∷ [] → r .at ≡ 0
+    → Runs r (Faulty (Padded 1) ∷ Faulty (Padded 1) ∷ Faulty (Padded 1) ∷ []) r
+unfolding stepAt takes after scan isPadded isLarge
+three-calls r e z =
+    let step : Steps r (Faulty (Padded 1)) r = record { stays = refl; gives = rw (e, z) } in
+    call-and step (call-and step (call-and step no-call))
