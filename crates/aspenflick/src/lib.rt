@@ -1,12 +1,12 @@
 // Aspenflick for C: the precoder of a 5G NR Type I PMI report of TS 38.214, single-panel (5.2.2.2.1) or multi-panel
-// (5.2.2.2.2), or its refusal.
+// (5.2.2.2.2), or its refusal; and a reader of logs of such reports.
 //
 // A call answers any numbers, masks and lengths. It allocates nothing, takes less than 2,048 bytes of stack (measured,
 // not proved) and keeps no state, so several threads may call at once, each with an `out` of its own. A struct goes by
 // value. A slice is a pointer to entries and then their number: the pointer must not be null and must be aligned for
 // them, also where there are none, and `out` must not overlap `beams`. Nothing else of the caller's is read or written.
-// An answer is determined by the report, both masks, the length of `out`, which function is called, and the version of
-// the library: whoever keeps a log of answers keeps these.
+// The answer to a report is determined by the report, both masks, the length of `out`, which function is called, and the
+// version of the library: whoever files answers keeps these.
 //
 // One panel: the settings (n1,n2) are (1,1), called two ports, (2,1), (2,2), (4,1), (3,2), (6,1), (4,2), (8,1), (4,3),
 // (6,2), (12,1), (4,4), (8,2) and (16,1). P is the number of ports, 2·n1·n2. M stands for the beams of the second
