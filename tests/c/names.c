@@ -1,4 +1,5 @@
-// Holds what the header names against what the functions answer: the version, the sizes, the mask bytes and the refusals.
+// Holds what the header names against what the functions answer: the version, the sizes, the mask bytes, the refusals, and
+// the kinds and faults of a step of a log.
 //
 // The last line is `N passed, M failed`; the exit status is 0 only if M is 0.
 // Freestanding: of the C library only printf.
@@ -83,6 +84,30 @@ static void refusals(void) {
     beams[4 * 8 / 8] = 255;
 }
 
+// A log that has each kind of step and each fault, and where.
+static const uint8_t reports[] = {2, 1, 1, 1, 1, 0, 0, 1, 128, 0, 255, 255, 255, 255, 16, 128};
+static const struct {
+    const char *what;
+    size_t from;
+    uint32_t kind, fault;
+    uint64_t place, next;
+} steps[] = {
+    {"LOG_REPORT", 0, ASPENFLICK_LOG_REPORT, 0, 0, 8},
+    {"LOG_END", sizeof reports, ASPENFLICK_LOG_END, 0, 0, sizeof reports},
+    {"LOG_END past the log", (size_t)-1, ASPENFLICK_LOG_END, 0, 0, (size_t)-1},
+    {"FAULT_ENDS", 15, ASPENFLICK_LOG_FAULT, ASPENFLICK_FAULT_ENDS, sizeof reports, 15},
+    {"FAULT_PADDED", 8, ASPENFLICK_LOG_FAULT, ASPENFLICK_FAULT_PADDED, 9, 8},
+    {"FAULT_LARGE", 10, ASPENFLICK_LOG_FAULT, ASPENFLICK_FAULT_LARGE, 14, 10},
+};
+
+static void log_steps(void) {
+    for (size_t k = 0; k < sizeof steps / sizeof steps[0]; k++) {
+        aspenflick_log_step s = aspenflick_log_next(reports, sizeof reports, steps[k].from);
+        check(s.kind == steps[k].kind && s.fault == steps[k].fault && s.place == steps[k].place && s.next == steps[k].next,
+              steps[k].what);
+    }
+}
+
 // The setting of each pair, the mask bytes that it needs and the largest sizes: a mask of another length is refused.
 static void sizes(void) {
     uint32_t ports = 0, layers = 0, entries = 0, bytes = 0, settings = 0;
@@ -118,6 +143,7 @@ int main(void) {
     for (size_t k = 0; k < sizeof beams; k++) beams[k] = 255;
     check(aspenflick_version() == ASPENFLICK_VERSION, "the version of the header and the library");
     refusals();
+    log_steps();
     sizes();
     printf("%d passed, %d failed\n", passed, failed);
     return failed != 0;
