@@ -4,8 +4,9 @@ use libc::STDERR_FILENO;
 use libc::STDIN_FILENO;
 use libc::STDOUT_FILENO;
 use log::Answer;
-ghost use Prim.Native.Nat.{_+_, _^_, _<_, _≤_};
-ghost use lib.ListN.{length};
+ghost use mathlib.Core.Path.{_≡_};
+ghost use Prim.Native.Nat.{_+_, _-_, _^_, _<_, _≤_};
+ghost use lib.ListN.{length, take, drop};
 
 // No report is longer. Where so many bytes are left, they tell what stands at a place, whatever follows them
 // (crates/log/proofs/Windows.antt).
@@ -86,9 +87,11 @@ fn read_once(rest: &mut [u8]) -> Input
     }
 }
 
-// The bytes of a part from a place up to another, moved to its front.
+// Moves the bytes of a part from a place up to another to its front.
 fn to_front(part: &mut [u8], from: usize, to: usize)
-    requires { ⌜ to ≤ length (now part) ⌝ }
+    requires { ⌜ (from ≤ to) × (to ≤ length (now part)) ⌝ }
+    ensures { λ _.
+        ⌜ take (to - from) (now (part .exit)) ≡ take (to - from) (drop from (now (part .entry))) ⌝ }
 {
     let mut i = from;
     while i < to {
