@@ -3,11 +3,11 @@ use mathlib.Core.Path.{_≡_, refl, sym, ap, _∙_}
 use mathlib.Core.Bool.{true, false, false≢true}
 use mathlib.Core.List.{List, map}
 use Prim.Native.Nat.{ℕ, _≤_}
-use lib.ListN.{length, getD, length-map}
+use lib.ListN.{length, length-map}
 use Rattle.report.specs.declared.Report.{Report}
 use Rattle.line.specs.declared.Reading.{Reading}
 use Rattle.line.specs.declared.Reading.the-variants.{Read, Unreadable}
-use Rattle.report.specs.Numbers.{valuesOf}
+use Rattle.report.specs.Numbers.{valuesOf, reportOf}
 use Rattle.line.specs.Form.{value, Form, Reads}
 use Rattle.line.proofs.Scanned.{words, good, good-found, joined-found}
 
@@ -33,19 +33,6 @@ pub reads-nothing : (line : List ℕ) → good 8 line ≡ false → Reads line U
 reads-nothing line g r f = false≢true (sym g ∙ form-found f .0)
 
 -- ---- a line has one reading
-
--- the report of eight numbers
-abbrev reportOf : List ℕ → Report
-reportOf xs = record {
-  n1 = getD xs 0 0;
-  n2 = getD xs 1 0;
-  mode = getD xs 2 0;
-  v = getD xs 3 0;
-  i11 = getD xs 4 0;
-  i12 = getD xs 5 0;
-  i13 = getD xs 6 0;
-  i2 = getD xs 7 0;
-}
 
 -- a line stands for one report
 pub form-one : {line : List ℕ} {r r′ : Report} → Form line r → Form line r′ → r ≡ r′
