@@ -15,7 +15,7 @@ use Rattle.report.specs.declared.Report.{Report}
 use Rattle.report.specs.Numbers.{valuesOf, reportOf}
 use Rattle.report.proofs.Numbers.{values-of-eight}
 use Rattle.groups.specs.Number.{value, fault, code, numberAt}
-use Rattle.groups.specs.Relied.{Below, Shows}
+use Rattle.groups.specs.Relied.{Below, Shows, ends, padded, large}
 use Rattle.groups.proofs.Coded.{number-reads, scan-stood, code-some}
 use Rattle.groups.proofs.Faults.{scan-begun, begun-scans}
 use Rattle.log.specs.declared.LogStep.{LogStep}
@@ -171,6 +171,20 @@ module _ (log : List ℕ) (at : ℕ) (below : Below 256 log) where
       by-kind (tells-report t) z = absurd (omega arith)
       by-kind (tells-end past) z = past
       by-kind (tells-fault b) z = absurd (omega arith)
+
+-- a fault by its number: 1 at the log's length
+
+nothing-follows : {k i : ℕ} {rest : List ℕ} → Shows k i rest → k ≡ 1 → rest ≡ []
+nothing-follows (ends h) e = refl
+nothing-follows (padded h few) e = absurd (omega arith)
+nothing-follows (large h) e = absurd (omega arith)
+
+pub ends-at-length : {log : List ℕ} {at p : ℕ} → Breaks log at 1 p → p ≡ length log
+ends-at-length {log} {at} {p} b =
+    let rest = ap length (nothing-follows (b .shows) refl) in
+    let long = ap length (b .bytes) ∙ length-append (along (b .numbers) code ++ b .begun) (drop p log) in
+    let front = length-append (along (b .numbers) code) (b .begun) in
+    omega (arith, b .inside, length-drop at log, b .place, long, front, rest)
 
 -- ---- and only that step tells it
 
