@@ -111,7 +111,7 @@ fn put_line(part: &[u8], held: usize, at: usize, out: &mut [u8]) -> Line
     if let Answer::Read(r) = answer {
         let numbers = [r.n1, r.n2, r.mode, r.v, r.i11, r.i12, r.i13, r.i2];
         return Line {
-            length: text::numbers(numbers, out),
+            length: listing::numbers(numbers, out),
             next: t.next,
         };
     }
@@ -146,7 +146,7 @@ fn print_reports(part: &[u8], held: usize, least: usize, lines: &mut [u8]) -> Pr
         }
         n += line.length;
         at = line.next;
-        if lines.len() - n < text::LONGEST_LINE {
+        if lines.len() - n < listing::LONGEST_LINE {
             if !put_out(lines, n) {
                 return Printed {
                     next: at,
@@ -171,15 +171,15 @@ fn put_last(part: &[u8], held: usize, at: usize, before: u64, out: &mut [u8]) ->
     let answer = t.answer;
     match answer {
         Answer::Read(_) => 0,
-        Answer::End => text::end(out),
-        Answer::Faulty(f) => text::fault(f.number(), before + f.place() as u64, out),
+        Answer::End => listing::end(out),
+        Answer::Faulty(f) => listing::fault(f.number(), before + f.place() as u64, out),
     }
 }
 
 fn print_last(part: &[u8], held: usize, at: usize, before: u64)
     requires { ⌜ (held ≤ length (now part)) × (before + held < 2 ^ 64) ⌝ }
 {
-    let mut line = [0; text::LONGEST_LINE];
+    let mut line = [0; listing::LONGEST_LINE];
     let n = put_last(part, held, at, before, &mut line);
     if !put_out(&line, n) {
         say(b"readlog: the last line could not be written\n");

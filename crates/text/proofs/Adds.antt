@@ -21,21 +21,27 @@ pub adds-stores : {text : List ℕ} (stores lent : List ℕ) (at : ℕ) → text
 adds-stores stores lent at e h =
     record { long = ap (λ (x : List ℕ). at + length x) (sym e); within = h; stands = rw e (sets-eq stores lent at h) }
 
--- a copy to what stands from a place on
+-- a text stands at the front of what was lent from a place on
+pub adds-part : {left : List ℕ} (text lent : List ℕ) (at : ℕ) → at + length text ≤ length lent
+    → left ≡ text ++ drop (length text) (drop at lent)
+    → Adds text at lent (at + length text) (take at lent ++ (left ++ drop (length lent - at) (drop at lent)))
+adds-part text lent at h e =
+    let end : at + (length lent - at) ≡ length lent = omega arith in
+    let none : drop (length lent - at) (drop at lent) ≡ [] =
+    drop-drop (length lent - at) at lent ∙ ap (λ (k : ℕ). drop k lent) end ∙ drop-length lent in
+    record { long = refl; within = h; stands = rw (none, append-nil, e, drop-drop) (simp append-assoc) }
+
+-- it was copied there
 pub adds-copy : {done : Bool} {left : List ℕ} (from lent : List ℕ) (at : ℕ) → at + length from ≤ length lent
     → Copied from (length from) (take (length lent - at) (drop at lent)) done left
     → Adds from at lent (at + length from) (take at lent ++ (left ++ drop (length lent - at) (drop at lent)))
 adds-copy {left = left} from lent at h c =
     let n = length from in
-    let end : at + (length lent - at) ≡ length lent = omega arith in
     let rest = take-all (length lent - at) (drop at lent) (rw length-drop (omega arith)) in
-    let none : drop (length lent - at) (drop at lent) ≡ [] =
-    drop-drop (length lent - at) at lent ∙ ap (λ (k : ℕ). drop k lent) end ∙ drop-length lent in
     let room = le-leb n (length (drop at lent)) (rw length-drop (omega arith)) in
     let copied = rw rest at c in
-    let all : left ≡ from ++ drop (at + n) lent =
-    copied .stands ∙ rw (copied .fits, le-leb n n (omega arith), room, take-all n from (omega arith), drop-drop) in
-    record { long = refl; within = h; stands = rw (none, append-nil, all) (simp append-assoc) }
+    adds-part from lent at h
+    (copied .stands ∙ rw (copied .fits, le-leb n n (omega arith), room, take-all n from (omega arith)))
 
 module _ {text lent left : List ℕ} {at n : ℕ} (a : Adds text at lent n left) where
   -- what stands before the place where the text ends

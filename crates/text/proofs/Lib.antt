@@ -4,5 +4,4 @@ pub mod Writes
 pub mod Words
 pub mod Lines
 pub mod Records
-pub mod Listed
 pub mod Unique

@@ -1,14 +1,13 @@
--- The lines of a matrix, a line of numbers, and the first line of a text: how they are written, and how long they are.
+-- The lines of a matrix and the first line of a text: how they are written, and how long they are.
 use mathlib.Core.Path.{_≡_, refl, _∙_}
 use mathlib.Core.List.{List, [], _∷_, _++_, append-nil, append-assoc}
 use Prim.Native.Nat.{ℕ, zero, suc, _+_, _-_, _*_, _%_, _<_, _≤_}
-use native.Mathlib.Nat.{add-zero, add-suc, zero-mul, one-mul, mul-zero, mod-eq-of-lt}
-use native.Mathlib.Numerals.{add-one}
+use native.Mathlib.Nat.{add-zero, add-suc, zero-mul, mul-zero}
 use native.Mathlib.Omega.{arith}
 use lib.Arith.{digits-mod}
 use lib.Dec.{lit≤}
 use lib.ListN.{length, take, drop, getD, length-append, length-take, length-drop, length-map}
-use lib.Seq.{take-all, drop-cons}
+use lib.Seq.{drop-cons}
 use Rattle.ground.specs.Lists.{All}
 use Rattle.ground.proofs.All.{all-take, all-drop}
 use Rattle.plan.specs.declared.Record.{Record}
@@ -65,19 +64,6 @@ pub lines-before : (n p v : ℕ) (xs ys : List ℕ) → n ≤ v → length xs �
 unfolding linesOf
 lines-before zero p v xs ys h e = refl
 lines-before (suc n) p v xs ys h e = rw (lines-before n p v xs ys (omega arith) e, layer-before p v n xs ys h e)
-
--- ---- a line of numbers: one more, and all
-
-pub line-next : (n i : ℕ) (xs : List ℕ) → i < n
-    → linesBegun n (i + 1) xs ≡ linesBegun n i xs ++ ended (getD xs i 0) (n - 1 - i)
-unfolding linesBegun
-line-next n i xs h = rw (add-one, mod-eq-of-lt h)
-
-pub line-all : (n : ℕ) (xs : List ℕ) → length xs ≡ n → linesBegun n n xs ≡ lineOf xs
-unfolding linesOf
-line-all n xs e =
-    let all = lines-all n xs 1 (omega arith) in
-    rw (one-mul n, zero-mul n, take-all n xs (omega arith)) at all
 
 -- ---- the first line, word by word
 

@@ -1,4 +1,3 @@
 -- What the contracts cite.
 pub mod Words
 pub mod Text
-pub mod Listing

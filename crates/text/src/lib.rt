@@ -1,4 +1,4 @@
-// Text for answers and for the listing of a log, written into a lent buffer.
+// Text for answers, and what lines are made of, written into a lent buffer.
 use plan::Record;
 use turn::Part;
 ghost use mathlib.Core.Path.{_≡_};
@@ -6,23 +6,17 @@ ghost use mathlib.Core.Bool.{true};
 ghost use Prim.Native.Nat.{_≤_};
 ghost use lib.Dec.{leb};
 ghost use lib.ListN.{length, take};
-ghost use Rattle.text.specs.Words.{ending};
+ghost use Rattle.text.specs.Words.{ending, ended};
 ghost use Rattle.text.specs.Text.{longest, recordText, unreadableText, printable, Writes, Adds};
 
-mod listing;
 mod write;
-
-pub use listing::end;
-pub use listing::fault;
-pub use listing::numbers;
 
 // The bytes of the longest text: `ok 32 8 256`, and 8 lines of 32 phases, each of three digits and what follows it. A
 // buffer of so many has room for every answer.
 pub const LONGEST_TEXT: usize = 12 + 8 * 32 * 4;
 
-// The bytes of the longest line of a listing: eight numbers, each of ten digits and what follows it. A buffer of so many
-// has room for every such line.
-pub const LONGEST_LINE: usize = 8 * 11;
+// The bytes of the longest number: twenty digits, and what follows them.
+const LONGEST_NUMBER: usize = 21;
 
 // What follows a word after which so many are left: a space, and a newline after the last.
 pub fn ending(left: usize) -> u8
@@ -31,13 +25,25 @@ pub fn ending(left: usize) -> u8
     if left == 0 { b'\n' } else { b' ' }
 }
 
-// Copies the first n bytes of a text to the front of a lent buffer and gives n; where fewer are lent, 0.
-fn put(text: &[u8], n: usize, out: &mut [u8]) -> usize
+// Copies the first n bytes of a text to the front of a lent buffer and gives n; bytes after them stay. Where fewer are lent,
+// or the text has fewer, 0 is given and every byte stays.
+pub fn put(text: &[u8], n: usize, out: &mut [u8]) -> usize
     ensures { λ k.
         ⌜ Writes (leb n (length (now (text .entry)))) (take n (now (text .entry))) (now (out .entry)) k
         (now (out .exit)) ⌝ }
 {
     if ground::copy(text, n, out) { n } else { 0 }
+}
+
+// Writes a number in decimals without leading zeros, and what follows it where so many words are left. Both stand at the
+// front of the lent buffer, bytes after them stay, and the number of their bytes is given. Where fewer are lent, 0 is given
+// and every byte stays. 17 gives `17` and a newline where none is left, and `17` and a space where some are.
+pub fn number(n: u64, left: usize, out: &mut [u8]) -> usize
+    ensures { λ k. ⌜ Writes true (ended n left) (now (out .entry)) k (now (out .exit)) ⌝ }
+{
+    let mut text = [0; LONGEST_NUMBER];
+    let k = write::ended(n, left, 0, &mut text);
+    put(&text, k, out)
 }
 
 // Whether a record has the numbers of an answer, and there are phases for it.

@@ -1,9 +1,9 @@
--- `listing::end` meets its contract: its bytes are the word and a newline, copied where there is room.
+-- `end` meets its contract: its bytes are the word and a newline, copied where there is room.
 use mathlib.Core.Path.{refl}
 use native.Mathlib.Omega.{arith}
-use Rattle.text.proofs.Listed.{end-bytes}
-use Rattle.text.proofs.listing.end.Statement.{statement}
-use Rattle.text.proofs.listing.end.Tie as tie
+use Rattle.listing.proofs.Listed.{end-bytes}
+use Rattle.listing.proofs.end.Statement.{statement}
+use Rattle.listing.proofs.end.Tie as tie
 
 returns : tie.Need-returns
 returns c = rw end-bytes (c .before .before .put .ensures)
