@@ -1,18 +1,18 @@
 #!/usr/bin/env python3
 """Tests the program readlog: compares what it prints of logs, to the byte, with a reader of its own.
 
-    logs.py STARTER READLOG PMI    test; STARTER starts either program
+    logs.py READLOG.. -- PMI..    test; the words by which either program is started
 
 The last line is `N passed, M failed`; the exit status is 0 only if N is above 0 and M is 0, and 2 for wrong words.
-Needs Python 3.9; takes about half a minute. tests/readlog starts this.
+Needs Python 3.9; takes some twenty seconds. tests/readlog starts this.
 
 The reader here is a grammar: a number is one of three forms of bytes, a report eight of them, and what stands behind the
 last number that can be read has exactly one of the forms that are faults. It is held against logs that are read by hand.
 
 What is sent:
   by hand    logs with the text that must come, written here
-  short      all logs of one byte
-  prefixes   every prefix of a log of twelve reports, which has the first and the last number of each count of bytes
+  short      logs of one byte
+  prefixes   every third prefix of a log of twelve reports, which has the first and the last number of each count of bytes
   changes    that log with one byte changed
   lengths    logs whose ends, and whose faults, lie around the sizes that a buffer may have
   offsets    reports of 40 bytes, the longest, which lie across the end of a buffer in every way
@@ -147,19 +147,19 @@ def draw_log(draw):
 
 # Sizes of a buffer, and how far from them a log ends.
 SIZES, AROUND = (4096, 8192, 16384, 65536, 131072), (-1, 0, 1, 39, 40, 41)
-RANDOM_LOGS, CHANGES = 100, 200
+RANDOM_LOGS, CHANGES = 130, 130
 
 
 def logs():
     """A name and a log of each that is sent as a file."""
     draw, twelve, longest = random.Random(SEED), log_of(*TWELVE), log_of(*LONGEST)
-    for byte in range(256):
+    for byte in (0, 1, 9, 10, 99, 100, 127, 128, 129, 255):
         yield f'short: byte {byte}', bytes([byte])
-    for size in range(len(twelve) + 1):
+    for size in range(0, len(twelve) + 1, 3):
         yield f'prefixes: {size} bytes', twelve[:size]
     for k in range(CHANGES):
-        at = k % len(twelve)
-        byte = twelve[at] ^ (128 if k < len(twelve) and k % 2 else draw.randrange(1, 256))
+        at = 2 * k % len(twelve)
+        byte = twelve[at] ^ (128 if k % 2 else draw.randrange(1, 256))
         yield f'changes: byte {at} is {byte}', twelve[:at] + bytes([byte]) + twelve[at + 1:]
     for size in (size + more for size in SIZES for more in AROUND):
         yield f'lengths: {size} bytes, whole', small(size)
@@ -315,7 +315,7 @@ def check_failing(tests, program):
 
 
 # How many logs end in each way at least.
-FEWEST = 40
+FEWEST = 30
 
 
 def runs_of(program):
@@ -332,11 +332,12 @@ def main(arguments):
     if arguments in (['--help'], ['-h']):
         print(__doc__.strip())
         return 0
-    if len(arguments) != 3 or arguments[0].startswith('-'):
-        print('logs: it takes STARTER READLOG PMI or --help', file=sys.stderr)
+    between = arguments.index('--') if '--' in arguments else 0
+    readlog, pmi = arguments[:between], arguments[between + 1:]
+    if not readlog or not pmi:
+        print('logs: it takes READLOG.. -- PMI.. or --help', file=sys.stderr)
         return 2
-    starter, readlog, pmi = arguments
-    tests, program, began = Tests(), Program([starter, readlog]), time.monotonic()
+    tests, program, began = Tests(), Program(readlog), time.monotonic()
     check_reader(tests)
     runs = runs_of(program)
     ends = collections.Counter(due.output.splitlines()[-1].partition(b' at ')[0].decode() for _, _, due, _ in runs)
@@ -355,7 +356,7 @@ def main(arguments):
             print(f'large: {name}: {size} bytes, {due.output} of text, in {seconds:.0f} s')
             tests.check(f'large: {name}', came == due, f'bytes of text, errors, status: {due}', f'as due up to {came}')
     check_failing(tests, program)
-    check_pmi(tests, program, Program([starter, pmi]))
+    check_pmi(tests, program, Program(pmi))
     print(f'in all {time.monotonic() - began:.0f} s')
     return tests.report()
 
