@@ -171,7 +171,9 @@ class Codebook:
         return b'\xff' * self.mask_bytes(s)
 
     def ones_but(self, s, k):
-        return self.mask_of(s, tuple(bit for bit in range(8 * self.mask_bytes(s)) if bit != k))
+        mask = bytearray(self.ones(s))
+        mask[k // 8] -= 1 << k % 8
+        return bytes(mask)
 
     def refusal(self, function, report, ranks, mask, length):
         """The first refusal that applies, or 0."""

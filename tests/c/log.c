@@ -7,7 +7,7 @@
 //
 //   short      the empty log, and all logs of one and of two bytes
 //   prefixes   every prefix of a log of twelve reports, from every place
-//   changes    that log with one byte changed, every byte to each other value, from every place that can tell
+//   changes    that log with one byte changed, every byte to each other value, also from the places just before it
 //   long       logs of some 70,000 bytes, whole and with a fault in the last report
 //   random     random logs, whole, cut or damaged
 //
@@ -389,7 +389,7 @@ static void read_prefixes(void) {
     }
 }
 
-// What is read from a place more than a report before the byte, or behind it, is as before.
+// From the start, and from the places just before the byte.
 static void read_changes(void) {
     part = CHANGES;
     len = 0;
@@ -398,7 +398,7 @@ static void read_changes(void) {
         uint8_t was = log[at];
         for (uint32_t byte = 0; byte < 256; byte++) {
             log[at] = (uint8_t)byte;
-            if (byte != was) read_log(at < MOST_BYTES ? 0 : at - MOST_BYTES, at + 1);
+            if (byte != was) read_log(at < NUMBERS ? 0 : at - NUMBERS, at + 1);
         }
         log[at] = was;
     }

@@ -7,7 +7,7 @@ use lib.ListN.{length, length-map}
 use Rattle.report.specs.declared.Report.{Report}
 use Rattle.line.specs.declared.Reading.{Reading}
 use Rattle.line.specs.declared.Reading.the-variants.{Read, Unreadable}
-use Rattle.report.specs.Numbers.{valuesOf, reportOf}
+use Rattle.eight.specs.Numbers.{valuesOf, reportOf}
 use Rattle.line.specs.Form.{value, Form, Reads}
 use Rattle.line.proofs.Scanned.{words, good, good-found, joined-found}
 

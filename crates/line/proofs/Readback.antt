@@ -14,7 +14,7 @@ use Rattle.report.specs.declared.Report.{Report}
 use Rattle.text.specs.Words.{nought, digit, decimalIn, decimal, lineOf}
 use Rattle.text.proofs.Words.{decimal-few, line-few}
 use Rattle.line.specs.declared.Reading.the-variants.{Read}
-use Rattle.report.specs.Numbers.{valuesOf}
+use Rattle.eight.specs.Numbers.{valuesOf}
 use Rattle.line.specs.Form.{isDigit, value, valueAfter, isDecimal, Reads}
 use Rattle.line.proofs.Scanned.{words, joined-found}
 

@@ -8,7 +8,7 @@ use lib.Dec.{leb}
 use lib.ListN.{length}
 use Rattle.ground.specs.Lists.{each}
 use Rattle.report.specs.declared.Report.{Report}
-use Rattle.report.specs.Numbers.{valuesOf}
+use Rattle.eight.specs.Numbers.{valuesOf}
 use Rattle.text.specs.Words.{nought, joined}
 use Rattle.line.specs.declared.Reading.{Reading}
 use Rattle.line.specs.declared.Reading.the-variants.{Read, Unreadable}

@@ -37,5 +37,5 @@ pub fn read(line: &[u8]) -> Reading
     if at < line.len() {
         return Reading::Unreadable;
     }
-    Reading::Read(report::report_of(values))
+    Reading::Read(eight::report_of(values))
 }

@@ -7,7 +7,7 @@ use native.Mathlib.Omega.{arith}
 use lib.ListN.{length, take, drop, set, length-drop}
 use lib.Seq.{take-all, take-suc-set}
 use borrow.Author.Tests.{lt-ltb, le-ltb}
-use Rattle.report.specs.Numbers.{reportOf}
+use Rattle.eight.specs.Numbers.{reportOf}
 use Rattle.groups.specs.Number.{Found, value, fault, numberAt}
 use Rattle.groups.proofs.Bytes.{scan-bounds}
 use Rattle.log.specs.declared.LogStep.{LogStep}

@@ -12,8 +12,8 @@ use borrow.Author.Tests.{ltb-true, ltb-false}
 use Rattle.ground.specs.Lists.{join, along, All, all-nil, all-cons}
 use Rattle.ground.proofs.Booleans.{either}
 use Rattle.report.specs.declared.Report.{Report}
-use Rattle.report.specs.Numbers.{valuesOf, reportOf}
-use Rattle.report.proofs.Numbers.{values-of-eight}
+use Rattle.eight.specs.Numbers.{valuesOf, reportOf}
+use Rattle.eight.proofs.Numbers.{values-of-eight}
 use Rattle.groups.specs.Number.{value, fault, code, numberAt}
 use Rattle.groups.specs.Relied.{Below, Shows, ends, padded, large}
 use Rattle.groups.proofs.Coded.{number-reads, scan-stood, code-some}

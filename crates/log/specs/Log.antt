@@ -6,7 +6,7 @@ use lib.ListN.{length}
 use Rattle.ground.specs.Cases.{_⇒_∣_}
 use Rattle.ground.specs.Lists.{along}
 use Rattle.report.specs.declared.Report.{Report}
-use Rattle.report.specs.Numbers.{valuesOf, reportOf}
+use Rattle.eight.specs.Numbers.{valuesOf, reportOf}
 use Rattle.groups.specs.Number.{code, Found, value, fault, numberAt}
 use Rattle.log.specs.declared.LogStep.{LogStep}
 

@@ -9,7 +9,7 @@ use lib.ListN.{length, drop}
 use Rattle.ground.specs.Cases.{_⇒_∣_}
 use Rattle.ground.specs.Lists.{along, All}
 use Rattle.report.specs.declared.Report.{Report}
-use Rattle.report.specs.Numbers.{valuesOf}
+use Rattle.eight.specs.Numbers.{valuesOf}
 use Rattle.groups.specs.Number.{code}
 use Rattle.groups.specs.Relied.{Below, Shows}
 use Rattle.log.specs.declared.Answer.{Answer}

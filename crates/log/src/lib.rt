@@ -75,7 +75,7 @@ pub fn taken_at(log: &[u8], from: usize) -> Taken
         }
     }
     Taken {
-        answer: Answer::Read(report::report_of(values)),
+        answer: Answer::Read(eight::report_of(values)),
         next: at,
     }
 }
@@ -131,7 +131,7 @@ pub fn step_at(log: &[u8], from: usize) -> LogStep
     let t = taken_at(log, from);
     let next = t.next as u64;
     let answer = t.answer;
-    let none = report::report_of([0; 8]);
+    let none = eight::report_of([0; 8]);
     match answer {
         Answer::Read(r) => LogStep {
             kind: 0,

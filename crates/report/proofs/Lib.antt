@@ -1,5 +1,4 @@
--- Laws of a report: its numbers, its refusals, how far its beams stand from B, and where they lie; and of the list of all in range.
-pub mod Numbers
+-- Laws of a report: its refusals, how far its beams stand from B, and where they lie; and of the list of all in range.
 pub mod InRange
 pub mod Judged
 pub mod Listed

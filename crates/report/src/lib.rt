@@ -1,7 +1,6 @@
 // A single-panel report by its own numbers: the first refusal that needs nothing else, or its beams.
 use settings::Ranges;
 ghost use mathlib.Core.Path.{_≡_};
-ghost use Rattle.report.specs.Numbers.{reportOf};
 ghost use Rattle.report.specs.Beams.{beamsOf};
 
 mod choice;
@@ -19,22 +18,6 @@ pub struct Report {
     pub i12: u32,
     pub i13: u32,
     pub i2: u32,
-}
-
-// The report of eight numbers, in the order in which lines and logs have them: N1 N2 mode v i11 i12 i13 i2.
-pub fn report_of(numbers: [u32; 8]) -> Report
-    ensures { λ r. ⌜ r ≡ reportOf numbers ⌝ }
-{
-    Report {
-        n1: numbers[0],
-        n2: numbers[1],
-        mode: numbers[2],
-        v: numbers[3],
-        i11: numbers[4],
-        i12: numbers[5],
-        i13: numbers[6],
-        i2: numbers[7],
-    }
 }
 
 // What a report's own numbers say: the first of 1, 2, 4 and 6 to 9 that applies, and else 0; what its setting needs; and

@@ -8,8 +8,8 @@ use native.Mathlib.Omega.{arith}
 use lib.ListN.{length, take, drop, length-set, drop-of-length-le}
 use lib.Seq.{take-all, take-suc-set, drop-cons, append-snoc}
 use borrow.Author.Tests.{not-false, not-true}
-use Rattle.report.specs.Numbers.{valuesOf}
-use Rattle.report.proofs.Numbers.{values-of-eight}
+use Rattle.eight.specs.Numbers.{valuesOf}
+use Rattle.eight.proofs.Numbers.{values-of-eight}
 use Rattle.line.specs.Form.{value}
 use Rattle.line.proofs.Scanned.{words, good, rest-at}
 use Rattle.line.proofs.Forms.{reads-report, reads-nothing}

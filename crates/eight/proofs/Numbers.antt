@@ -5,7 +5,7 @@ use Prim.Native.Nat.{ℕ, zero, suc, _+_, _≤_}
 use native.Mathlib.Omega.{arith}
 use lib.ListN.{length, drop, getD, drop-of-length-le}
 use lib.Seq.{drop-cons}
-use Rattle.report.specs.Numbers.{valuesOf, reportOf}
+use Rattle.eight.specs.Numbers.{valuesOf, reportOf}
 
 -- so many elements, from a place on
 places : ℕ → ℕ → List ℕ → List ℕ

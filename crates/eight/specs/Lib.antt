@@ -1,0 +1,2 @@
+-- A report as eight numbers.
+pub mod Numbers
