@@ -3,7 +3,7 @@ pub mod Taking
 pub mod Answers
 pub mod Counted
 pub mod Told
-pub mod Windows
+pub mod Parts
 pub mod Readback
 pub mod Unique
 pub mod Reading

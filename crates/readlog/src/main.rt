@@ -9,7 +9,7 @@ ghost use Prim.Native.Nat.{_+_, _-_, _^_, _<_, _≤_};
 ghost use lib.ListN.{length, take, drop};
 
 // No report is longer. Where so many bytes are left, they tell what stands at a place, whatever follows them
-// (crates/log/proofs/Windows.antt).
+// (crates/log/proofs/Parts.antt).
 const LONGEST_REPORT: usize = 40;
 
 // How many bytes are counted. A place has 64 bits, and a loop that is proved has to end.
