@@ -6,21 +6,18 @@ ghost use mathlib.Core.Path.{_≡_};
 ghost use Rattle.settings.specs.Settings.{sizesOf};
 ghost use Rattle.multi.specs.Panels.{B′, kOf, reached, InRange};
 
-// The row of k for i13 from two layers on. Those of v = 3 and 4 stand after (0,0).
+// The row of k for i13 from two layers on.
 fn k_of(r: PanelReport) -> Beam
     requires { ⌜ InRange r × (r .v ≡ 1 → ⊥) ⌝ }
     ensures { λ k. ⌜ k ≡ kOf r ⌝ }
 {
     if r.v == 2 {
-        if r.n1 == r.n2 {
-            return settings::k_at(r.n2, r.i13, 4);
-        }
-        return settings::k_at(r.n2, r.i13, 3);
+        return rows::k_two(r.n1, r.n2, r.i13);
     }
-    settings::k_at(r.n2, r.i13 + 1, 4)
+    rows::k_three(r.n1, r.n2, r.i13)
 }
 
-// B', reduced; one layer has B alone. For N2 = 1 there is one m, whatever O2.
+// B', reduced; one layer has B alone. For N2 = 1 there is one m.
 pub fn second_beam(r: PanelReport, s: Sizes) -> Beam
     requires { ⌜ InRange r × (s ≡ sizesOf (r .n1) (r .n2)) ⌝ }
     ensures { λ x. ⌜ x ≡ reached r B′ ⌝ }
@@ -29,8 +26,12 @@ pub fn second_beam(r: PanelReport, s: Sizes) -> Beam
         return Beam { l: r.i11, m: r.i12 };
     }
     let k = k_of(r);
+    let l = (r.i11 + 4 * k.l) % s.across;
+    if s.down == 1 {
+        return Beam { l: l, m: r.i12 };
+    }
     Beam {
-        l: (r.i11 + 4 * k.l) % s.across,
+        l: l,
         m: (r.i12 + 4 * k.m) % s.down,
     }
 }

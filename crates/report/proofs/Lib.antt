@@ -2,6 +2,7 @@
 pub mod InRange
 pub mod Judged
 pub mod Listed
+pub mod Base
 pub mod Steps
 pub mod Offsets
 pub mod Reached

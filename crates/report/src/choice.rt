@@ -1,16 +1,17 @@
 // The beams B, B', B'' and B''' of a report.
 use crate::Beams;
 use crate::Report;
-use crate::rows;
 use settings::Beam;
 use settings::Sizes;
 ghost use mathlib.Core.Path.{_≡_};
 ghost use mathlib.Core.Bool.{true, false};
 ghost use mathlib.Core.List.{[], _∷_};
 ghost use Prim.Native.Nat.{_+_, _*_, _%_, _≤_};
-ghost use lib.ListN.{length};
+ghost use lib.Dec.{ltb};
+ghost use lib.ListN.{length, getD};
+ghost use Rattle.ground.specs.Cases.{_⇒_∣_};
 ghost use Rattle.settings.specs.Settings.{isSetting, sizesOf};
-ghost use Rattle.settings.specs.Ranges.{beam};
+ghost use Rattle.settings.specs.Ranges.{beam, kRows};
 ghost use Rattle.report.specs.Rules.{InRange};
 ghost use Rattle.report.specs.Beams.{isHalf, g, n, base, moved, beams, saidOf, Small};
 
@@ -31,10 +32,10 @@ fn n_of(r: Report) -> u32
     r.i2
 }
 
-// B, before it is reduced.
-fn base_of(r: Report, half: bool) -> Beam
-    requires { ⌜ InRange r × (half ≡ isHalf r) ⌝ }
-    ensures { λ x. ⌜ x ≡ base r ⌝ }
+// B, reduced. In mode 2 with N2 = 1 alone it may stand past the last beam.
+fn base_of(r: Report, s: Sizes, half: bool) -> Beam
+    requires { ⌜ InRange r × (s ≡ sizesOf (r .n1) (r .n2)) × (half ≡ isHalf r) ⌝ }
+    ensures { λ x. ⌜ x ≡ moved r (base r) (beam 0 0) ⌝ }
 {
     let l = 2 * r.i11;
     if half {
@@ -50,7 +51,10 @@ fn base_of(r: Report, half: bool) -> Beam
             m: 2 * r.i12 + q / 2,
         };
     }
-    Beam { l: l + q, m: 0 }
+    Beam {
+        l: (l + q) % s.across,
+        m: 0,
+    }
 }
 
 // One number of a beam: x moved by k steps of 4, modulo the beams w.
@@ -91,19 +95,44 @@ fn said(r: Report, s: Sizes, half: bool, count: u32, a: Beam, b: Beam, c: Beam, 
     }
 }
 
-// v = 5 to 8: x is B before it is reduced, and a afterwards. The third beam of v = 5 and 6 has the place of the fourth of
-// v = 7 and 8, and for N2 = 1 that of the third.
-fn choose_many(r: Report, s: Sizes, x: Beam, a: Beam) -> Beams
-    requires { ⌜ InRange r × (s ≡ sizesOf (r .n1) (r .n2)) × (x ≡ base r) × (a ≡ moved r x (beam 0 0)) × (5 ≤ r .v) ⌝ }
+// The row of k for i13 at v = 2 to 4, above two ports and without half-length beams.
+fn k_row(r: Report) -> Beam
+    requires { ⌜ InRange r × (r .n1 ≡ 1 → ⊥) × (isHalf r ≡ false) × (2 ≤ r .v) × (r .v ≤ 4) ⌝ }
+    ensures { λ k. ⌜ k ≡ getD (kRows (r .n1) (r .n2) (r .v)) (r .i13) (beam 0 0) ⌝ }
+{
+    if r.v == 2 {
+        return rows::k_two(r.n1, r.n2, r.i13);
+    }
+    rows::k_three(r.n1, r.n2, r.i13)
+}
+
+// The step of B'' at v = 5 and 6.
+fn k_third(n2: u32) -> Beam
+    ensures { λ k. ⌜ k ≡ (ltb 1 n2 ⇒ beam 1 1 ∣ beam 2 0) ⌝ }
+{
+    if n2 <= 1 {
+        return Beam { l: 2, m: 0 };
+    }
+    Beam { l: 1, m: 1 }
+}
+
+// v = 5 to 8: a is B, reduced.
+fn choose_many(r: Report, s: Sizes, a: Beam) -> Beams
+    requires { ⌜ InRange r × (s ≡ sizesOf (r .n1) (r .n2)) × (a ≡ moved r (base r) (beam 0 0)) × (5 ≤ r .v) ⌝ }
     ensures { λ y. ⌜ y ≡ saidOf r s (isHalf r) (length (beams r)) (beams r) ⌝ }
 {
-    let b = moved_by(r, s, x, Beam { l: 1, m: 0 });
+    let b = moved_by(r, s, a, Beam { l: 1, m: 0 });
     if r.v <= 6 {
-        let c = moved_by(r, s, x, rows::k_third(r.n2));
+        let c = moved_by(r, s, a, k_third(r.n2));
         return said(r, s, false, 3, a, b, c, Beam { l: 0, m: 0 });
     }
-    let c = moved_by(r, s, x, settings::k_at(r.n2, 2, 4));
-    let d = moved_by(r, s, x, settings::k_at(r.n2, 3, 4));
+    if r.n2 <= 1 {
+        let c = moved_by(r, s, a, Beam { l: 2, m: 0 });
+        let d = moved_by(r, s, a, Beam { l: 3, m: 0 });
+        return said(r, s, false, 4, a, b, c, d);
+    }
+    let c = moved_by(r, s, a, Beam { l: 0, m: 1 });
+    let d = moved_by(r, s, a, Beam { l: 1, m: 1 });
     said(r, s, false, 4, a, b, c, d)
 }
 
@@ -117,10 +146,9 @@ pub fn choose(r: Report, s: Sizes) -> Beams
         return said(r, s, false, r.v, none, none, none, none);
     }
     let half = settings::is_half_length(s.ports, r.v);
-    let x = base_of(r, half);
-    let a = moved_by(r, s, x, none);
+    let a = base_of(r, s, half);
     if 5 <= r.v {
-        return choose_many(r, s, x, a);
+        return choose_many(r, s, a);
     }
     if r.v == 1 {
         return said(r, s, false, 1, a, none, none, none);
@@ -128,6 +156,6 @@ pub fn choose(r: Report, s: Sizes) -> Beams
     if half {
         return said(r, s, true, 1, a, none, none, none);
     }
-    let b = moved_by(r, s, x, rows::k_row(r));
+    let b = moved_by(r, s, a, k_row(r));
     said(r, s, false, 2, a, b, none, none)
 }

@@ -4,7 +4,6 @@ ghost use mathlib.Core.Path.{_≡_};
 ghost use Rattle.report.specs.Beams.{beamsOf};
 
 mod choice;
-mod rows;
 mod rules;
 
 // A report: the setting (N1,N2), the codebook mode, the rank v, and the indices.

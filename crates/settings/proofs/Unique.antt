@@ -4,7 +4,6 @@ use Rattle.ground.specs.Unique.{Unique}
 use Rattle.settings.proofs.sizes_of.Reads as sizes-of
 use Rattle.settings.proofs.mask_bytes.Reads as mask-bytes
 use Rattle.settings.proofs.ranges_of.Reads as ranges-of
-use Rattle.settings.proofs.rows.k_at.Reads as k-at
 use Rattle.settings.proofs.values.is_mode_two.Reads as is-mode-two
 use Rattle.settings.proofs.values.is_half_length.Reads as is-half-length
 
@@ -16,9 +15,6 @@ mask-bytes-unique k a r r′ e e′ p q = p ∙ sym q
 
 pub ranges-of-unique : Unique ranges-of.Learnt
 ranges-of-unique k a r r′ e e′ p q = p ∙ sym q
-
-pub k-at-unique : Unique k-at.Learnt
-k-at-unique k a r r′ e e′ p q = p ∙ sym q
 
 pub is-mode-two-unique : Unique is-mode-two.Learnt
 is-mode-two-unique k a r r′ e e′ p q = p ∙ sym q

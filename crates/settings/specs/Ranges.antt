@@ -35,15 +35,16 @@ modeTwo n1 mode v = eqb mode 2 && leb v 2 && not (twoPorts n1)
 unfoldable pub halfLength : ℕ → ℕ → Bool
 halfLength p v = leb 3 v && leb v 4 && leb 16 p
 
--- the rows (k1,k2) for i13 at v = 2, in steps of (O1,O2): N1 > N2 > 1; N1 = N2; (2,1); other N2 = 1
+-- Table 5.2.2.2.1-3: the rows (k1,k2) for i13 at v = 2, in steps of (O1,O2), column by column: N1 > N2 > 1; N1 = N2, but
+-- for two ports; (2,1); N1 > 2 with N2 = 1
 unfoldable pub kTwo : ℕ → ℕ → List Beam
 kTwo n1 n2 =
     ltb 1 n2 && ltb n2 n1 ⇒ beam 0 0 ∷ beam 1 0 ∷ beam 0 1 ∷ beam 2 0 ∷ []
-    ∣ eqb n1 n2 ⇒ beam 0 0 ∷ beam 1 0 ∷ beam 0 1 ∷ beam 1 1 ∷ []
+    ∣ ltb 1 n2 && eqb n1 n2 ⇒ beam 0 0 ∷ beam 1 0 ∷ beam 0 1 ∷ beam 1 1 ∷ []
     ∣ eqb n1 2 ⇒ beam 0 0 ∷ beam 1 0 ∷ []
     ∣ beam 0 0 ∷ beam 1 0 ∷ beam 2 0 ∷ beam 3 0 ∷ []
 
--- those at v = 3 and 4 for P < 16: (2,1), (4,1), (6,1); (2,2), (3,2)
+-- Table 5.2.2.2.1-4: those at v = 3 and 4 for P < 16: (2,1), (4,1), (6,1); (2,2), (3,2)
 unfoldable pub kThree : ℕ → ℕ → List Beam
 kThree n1 n2 =
     eqb n2 1 && eqb n1 2 ⇒ beam 1 0 ∷ []

@@ -5,10 +5,8 @@ ghost use Rattle.ground.specs.Cases.{_⇒_∣_};
 ghost use Rattle.settings.specs.Settings.{isSetting, down, maskBytes, sizesOf};
 ghost use Rattle.settings.specs.Ranges.{rangesOf};
 
-mod rows;
 mod values;
 
-pub use rows::k_at;
 pub use values::is_half_length;
 pub use values::is_mode_two;
 

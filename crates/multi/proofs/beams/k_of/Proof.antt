@@ -1,45 +1,24 @@
--- `beams::k_of` meets its contract: by its tests the row is that of the definition.
+-- `beams::k_of` meets its contract: two layers have one table, three and four the other.
+use mathlib.Core.Path.{_∙_}
 use native.Mathlib.Omega.{arith}
 use borrow.Author.Needs.{needs}
-use borrow.Author.Tests.{eq-eqb, ne-eqb}
-use Rattle.multi.proofs.Rows.{Row, rowAt, row-right}
+use Rattle.multi.proofs.InRange.{v-some}
+use Rattle.multi.proofs.Rows.{Row, row-right, row-of-two}
 use Rattle.multi.proofs.beams.k_of.Statement.{statement}
 use Rattle.multi.proofs.beams.k_of.Tie as tie
 
-right : (s : tie.Start) → Row (s .args .r)
-right s = row-right (s .args .r) (s .pre .0)
-
 returns : tie.Need-returns
-unfolding rowAt
 returns c =
-    let two = c .before .before .before in
+    let two = c .before in
     let s = two .before .before in
-    rw (c .k-at .ensures)
-    (rw (ne-eqb _ 1 (s .pre .1), eq-eqb _ 2 (two .if1 .taken), eq-eqb _ _ (c .before .if2 .taken)) at (right s .given))
+    c .k-two .ensures ∙ row-of-two (s .args .r) (two .if1 .taken)
 
 returns-2 : tie.Need-returns-2
-unfolding rowAt
 returns-2 c =
-    let two = c .before .before .before in
-    let s = two .before .before in
-    rw (c .k-at2 .ensures)
-    (rw (ne-eqb _ 1 (s .pre .1), eq-eqb _ 2 (two .if1 .taken), ne-eqb _ _ (c .before .if2 .left)) at (right s .given))
-
-returns-3 : tie.Need-returns-3
-unfolding rowAt
-returns-3 c =
-    let more = c .before .before in
+    let more = c .before in
     let s = more .before .before in
-    rw (c .k-at3 .ensures) (rw (ne-eqb _ 1 (s .pre .1), ne-eqb _ 2 (more .if1 .left)) at (right s .given))
+    let h = s .pre .0 in
+    c .k-three .ensures ∙ row-right (s .args .r) h .of-more (omega (arith, v-some _ h, s .pre .1, more .if1 .left))
 
 pub k-of-spec : {M : Type 1} → statement M
-k-of-spec =
-    tie.close
-    (tie.spec
-    (λ c κs. search needs)
-    returns
-    (λ c κs. search needs)
-    returns-2
-    (λ c. omega (arith, right (c .before .before .before) .few))
-    (λ c κs. search needs)
-    returns-3)
+k-of-spec = tie.close (tie.spec (λ c κs. search needs) returns (λ c κs. search needs) returns-2)

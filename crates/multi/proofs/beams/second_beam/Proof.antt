@@ -2,7 +2,6 @@
 use mathlib.Core.Path.{_≡_, sym, ap, ap₂, _∙_}
 use Prim.Native.Nat.{ℕ, _+_, _*_, _%_, _<_, _≤_}
 use native.Mathlib.Omega.{arith}
-use borrow.Author.Tests.{eq-eqb}
 use Rattle.settings.specs.declared.Beam.{Beam}
 use Rattle.settings.specs.Settings.{o1, o2, across, down}
 use Rattle.settings.specs.Ranges.{beam}
@@ -12,7 +11,7 @@ use Rattle.multi.specs.declared.PanelReport.{PanelReport}
 use Rattle.multi.specs.Panels.{B, B′, kOf, reached, InRange}
 use Rattle.multi.proofs.InRange.{set}
 use Rattle.multi.proofs.Columns.{base-is}
-use Rattle.multi.proofs.Rows.{Row, rowAt, row-right}
+use Rattle.multi.proofs.Rows.{Row, row-right, row-of-one}
 use Rattle.multi.proofs.beams.second_beam.Statement.{statement}
 use Rattle.multi.proofs.beams.second_beam.Tie as tie
 
@@ -32,9 +31,17 @@ module _ (s : tie.Start) where
   i12-few : s .args .r .i12 < 64
   i12-few = omega (arith, s .pre .0 .i12, panel .down-few)
 
--- from two layers on
+-- from two layers on; and where it is known what k is, seen from behind the test of one beam down
 abbrev start : tie.After-k-of → tie.Start
 start c = c .before .before .before
+
+abbrev row₅ : tie.After-struct-known5 → tie.After-k-of
+row₅ c = c .before .before .before .before
+
+by-row : (r : PanelReport) {k : Beam} → k ≡ kOf r
+    → beam ((r .i11 + o1 (r .n1) * k .l) % across (r .n1)) ((r .i12 + o2 (r .n2) * k .m) % down (r .n2)) ≡ reached r B′
+unfolding reached
+by-row r e = rw e
 
 module _ (c : tie.After-k-of) where
   l-small : c .k-of .result .l ≤ 4
@@ -43,35 +50,47 @@ module _ (c : tie.After-k-of) where
   m-small : c .k-of .result .m ≤ 4
   m-small = rw (c .k-of .ensures) (row (start c) .m-small)
 
-by-row : (r : PanelReport) {k : Beam} → k ≡ kOf r
-    → beam ((r .i11 + o1 (r .n1) * k .l) % across (r .n1)) ((r .i12 + o2 (r .n2) * k .m) % down (r .n2)) ≡ reached r B′
-unfolding reached
-by-row r e = rw e
+  -- l is that of the definition, and then so is the beam whose m is
+  moved-is : (m : ℕ)
+      → let s = start c .args in
+      m ≡ (s .r .i12 + o2 (s .r .n2) * c .k-of .result .m) % down (s .r .n2)
+      → beam ((s .r .i11 + 4 * c .k-of .result .l) % s .s .across) m ≡ reached (s .r) B′
+  moved-is m e =
+      let s = start c in
+      let r = s .args .r in
+      let k = c .k-of .result in
+      let along = ap (λ (w : ℕ). (r .i11 + 4 * k .l) % w) (sizes s .across) in
+      ap₂ {C = Beam} beam (along ∙ step-across _ (r .i11) (k .l) (set _ (s .pre .0) .above-two)) e
+      ∙ by-row r (c .k-of .ensures)
 
 -- one layer has a row of nothing
-alone : (r : PanelReport) → InRange r → r .v ≡ 1 → reached r B′ ≡ reached r B
-unfolding reached rowAt
-alone r h one = rw (sym (row-right r h .given), eq-eqb (r .v) 1 one)
+alone : (r : PanelReport) → r .v ≡ 1 → reached r B′ ≡ reached r B
+unfolding reached
+alone r one = rw (row-of-one r one)
 
 returns : tie.Need-returns
 returns c =
     let s = c .before .before in
     let h = s .pre .0 in
-    sym (alone _ h (c .if1 .taken) ∙ base-is _ h)
+    sym (alone _ (c .if1 .taken) ∙ base-is _ h)
+
+-- where there is one beam down, i12 is 0
+one-down : (x y w : ℕ) → w ≡ 1 → x < w → x ≡ y % w
+one-down x y w e h = rw e (omega (arith, rw e at h))
 
 returns-2 : tie.Need-returns-2
-unfolding reached
 returns-2 c =
-    let k = c .before .before .before .before .before .before in
+    let k = row₅ (c .before) in
+    let s = start k in
+    moved-is k _ (one-down _ _ _ (sym (sizes s .down) ∙ c .if2 .taken) (s .pre .0 .i12))
+
+returns-3 : tie.Need-returns-3
+returns-3 c =
+    let k = row₅ (c .before .before .before .before) in
     let s = start k in
     let r = s .args .r in
-    let step = k .k-of .result in
-    let along = ap (λ (w : ℕ). (r .i11 + 4 * step .l) % w) (sizes s .across) in
-    let upward = ap (λ (w : ℕ). (r .i12 + 4 * step .m) % w) (sizes s .down) in
-    ap₂ {C = Beam} beam
-    (along ∙ step-across _ (r .i11) (step .l) (set _ (s .pre .0) .above-two))
-    (upward ∙ step-down _ (r .i12) (step .m) (panel s .n2-some))
-    ∙ by-row r (k .k-of .ensures)
+    let upward = ap (λ (w : ℕ). (r .i12 + 4 * k .k-of .result .m) % w) (sizes s .down) in
+    moved-is k _ (upward ∙ step-down _ (r .i12) (k .k-of .result .m) (panel s .n2-some))
 
 pub second-beam-spec : {M : Type 1} → statement M
 second-beam-spec =
@@ -82,9 +101,8 @@ second-beam-spec =
     (λ c. omega (arith, l-small (c .before)))
     (λ c. let k = c .before .before in omega (arith, l-small k, i11-few (start k)))
     (λ c. let s = start (c .before .before .before) in omega (arith, sizes s .across, panel s .across-some))
-    (λ c. omega (arith, m-small (c .before .before .before .before)))
-    (λ c. let k = c .before .before .before .before .before in omega (arith, m-small k, i12-few (start k)))
-    (λ c.
-    let s = start (c .before .before .before .before .before .before) in
-    omega (arith, sizes s .down, panel s .down-some))
-    returns-2)
+    returns-2
+    (λ c. omega (arith, m-small (row₅ (c .before .before))))
+    (λ c. let k = row₅ (c .before .before .before) in omega (arith, m-small k, i12-few (start k)))
+    (λ c. let s = start (row₅ (c .before .before .before .before)) in omega (arith, sizes s .down, panel s .down-some))
+    returns-3)

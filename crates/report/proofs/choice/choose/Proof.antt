@@ -1,29 +1,29 @@
 -- `choice::choose` meets its contract: its beams are those of the offsets, and two ports have none but (0,0).
-use mathlib.Core.Path.{_≡_, refl, sym, ap, _∙_}
+use mathlib.Core.Path.{_≡_, sym, ap, _∙_}
 use mathlib.Core.Bool.{false}
 use Prim.Native.Nat.{_≤_}
 use native.Mathlib.Omega.{arith}
 use borrow.Author.Needs.{needs}
 use borrow.Author.Tests.{eq-eqb, ne-eqb}
 use Rattle.settings.specs.declared.Sizes.{Sizes}
-use Rattle.settings.specs.Ranges.{beam, halfLength}
-use Rattle.report.specs.Beams.{isHalf, base, moved, Small}
+use Rattle.settings.specs.Ranges.{halfLength}
+use Rattle.report.specs.Beams.{isHalf, Small}
 use Rattle.report.proofs.InRange.{v-some, i11-small, i12-small}
-use Rattle.report.proofs.Steps.{is-small, row-right, base-small, base-movable, moved-from-base}
+use Rattle.report.proofs.Steps.{row-small, moved-small, moved-from-base}
 use Rattle.report.proofs.Offsets.{whole-few, said-single, said-two}
 use Rattle.report.proofs.Reached.{two-ports-said}
 use Rattle.report.proofs.choice.choose.Statement.{statement}
 use Rattle.report.proofs.choice.choose.Tie as tie
 
--- where the function starts, seen from behind its first test and from B; and where B was moved, from later tests
+-- where the function starts, seen from behind its first test and from B; and B, seen from behind the later tests
 abbrev start₁ : tie.Else1 → tie.Start
 start₁ c = c .before .before
 
 abbrev startB : tie.After-base-of → tie.Start
 startB c = start₁ (c .before .before)
 
-abbrev moved₃ : tie.Else3 → tie.After-moved-by
-moved₃ c = c .before .before .before .before
+abbrev base₃ : tie.Else3 → tie.After-base-of
+base₃ c = c .before .before .before .before
 
 half : (c : tie.After-is-half-length) → c .is-half-length .result ≡ isHalf (start₁ (c .before) .args .r)
 half c =
@@ -31,16 +31,12 @@ half c =
     c .is-half-length .ensures ∙ ap (λ (z : Sizes). halfLength (z .ports) (s .args .r .v)) (s .pre .1)
     ∙ rw (s .pre .0 .setting)
 
--- the first beam
-first : (c : tie.After-moved-by) → let r = startB (c .before) .args .r in c .moved-by .result ≡ moved r (base r) (beam 0 0)
-first c = moved-from-base _ (c .moved-by .ensures) (c .before .base-of .ensures) refl
-
 -- two to four layers, of whole beams
-few : (c : tie.Else3) → startB (moved₃ c .before) .args .r .v ≤ 4
+few : (c : tie.Else3) → startB (base₃ c) .args .r .v ≤ 4
 few c = omega (arith, c .before .before .if2 .left)
 
-whole : (c : tie.Else4) → isHalf (startB (moved₃ (c .before) .before) .args .r) ≡ false
-whole c = sym (half (moved₃ (c .before) .before .before)) ∙ c .if4 .left
+whole : (c : tie.Else4) → isHalf (startB (base₃ (c .before)) .args .r) ≡ false
+whole c = sym (half (base₃ (c .before) .before)) ∙ c .if4 .left
 
 returns : tie.Need-returns
 returns c =
@@ -48,30 +44,27 @@ returns c =
     two-ports-said _ (s .pre .0) (c .before .if1 .taken) _ (c .said .ensures)
 
 base-of-requires : tie.Need-base-of-requires
-base-of-requires c κs = (start₁ (c .before) .pre .0, half c)
-
-moved-by-requires : tie.Need-moved-by-requires
-moved-by-requires c κs =
-    let s = startB c in
-    base-movable (s .pre .0) (c .before .before .if1 .left) (s .pre .1) (c .base-of .ensures) (is-small (beam 0 0) tt)
+base-of-requires c κs =
+    let s = start₁ (c .before) in
+    (s .pre .0, s .pre .1, half c)
 
 returns-3 : tie.Need-returns-3
 returns-3 c =
-    let a = c .before .before .before .before .before in
-    let whole = whole-few (startB (a .before) .args .r) (omega arith) in
-    said-single _ _ (first a) (c .said2 .ensures) whole (rw (eq-eqb _ 1 (c .before .if3 .taken))) (omega arith)
+    let b = c .before .before .before .before .before in
+    let whole = whole-few (startB b .args .r) (omega arith) in
+    said-single _ _ (b .base-of .ensures) (c .said2 .ensures) whole (rw (eq-eqb _ 1 (c .before .if3 .taken))) (omega arith)
 
 returns-4 : tie.Need-returns-4
 returns-4 c =
     let more = c .before .before in
-    let a = moved₃ more in
-    let e = sym (half (a .before .before)) ∙ c .before .if4 .taken in
-    said-single _ _ (first a) (c .said3 .ensures) e (rw (ne-eqb _ 1 (more .if3 .left))) (few more)
+    let b = base₃ more in
+    let e = sym (half (b .before)) ∙ c .before .if4 .taken in
+    said-single _ _ (b .base-of .ensures) (c .said3 .ensures) e (rw (ne-eqb _ 1 (more .if3 .left))) (few more)
 
 k-row-requires : tie.Need-k-row-requires
 k-row-requires c κs =
     let more = c .before in
-    let b = moved₃ more .before in
+    let b = base₃ more in
     let s = startB b in (
       s .pre .0,
       b .before .before .if1 .left,
@@ -81,29 +74,29 @@ k-row-requires c κs =
     )
 
 -- whichever of the report's numbers it is given, they are small
-moved-by-requires-2 : tie.Need-moved-by-requires-2
-moved-by-requires-2 c κs =
-    let b = moved₃ (c .before .before) .before in
+moved-by-requires : tie.Need-moved-by-requires
+moved-by-requires c κs =
+    let b = base₃ (c .before .before) in
     let s = startB b in
     let r = s .args .r in
     let h = s .pre .0 in
-    let small : Small (b .base-of .result) = rw (b .base-of .ensures) (base-small r h) in (
+    let asked = k-row-requires (c .before) (c .k-row .lifetimes) in
+    let small : Small (b .base-of .result) = moved-small r h (b .base-of .ensures) in (
       h .setting,
       b .before .before .if1 .left,
       s .pre .1,
       record { l = omega (arith, small .l, i11-small r h); m = omega (arith, small .m, i12-small r h) },
-      rw (c .k-row .ensures) (row-right r (k-row-requires (c .before) (c .k-row .lifetimes)) .small),
+      rw (c .k-row .ensures) (row-small r (asked .1) h (asked .2) (asked .3) (asked .4)),
     )
 
--- the second beam is B, as it was before it was reduced, moved by the row of k
+-- the second beam is B moved by the row of k
 returns-5 : tie.Need-returns-5
 returns-5 c =
     let e = c .before .before .before in
     let more = e .before in
-    let a = moved₃ more in
-    let second =
-    moved-from-base _ (c .before .moved-by2 .ensures) (a .before .base-of .ensures) (c .before .before .k-row .ensures) in
-    said-two _ _ (first a) (c .said4 .ensures) (whole e) (more .if3 .left) (few more) second
+    let b = base₃ more in
+    let second = moved-from-base _ (c .before .moved-by .ensures) (b .base-of .ensures) (c .before .before .k-row .ensures) in
+    said-two _ _ (b .base-of .ensures) (c .said4 .ensures) (whole e) (more .if3 .left) (few more) second
 
 pub choose-spec : {M : Type 1} → statement M
 choose-spec =
@@ -113,7 +106,6 @@ choose-spec =
     returns
     (λ c κs. search needs)
     base-of-requires
-    moved-by-requires
     (λ c κs. search needs)
     (λ c. search needs)
     (λ c κs. search needs)
@@ -121,6 +113,6 @@ choose-spec =
     (λ c κs. search needs)
     returns-4
     k-row-requires
-    moved-by-requires-2
+    moved-by-requires
     (λ c κs. search needs)
     returns-5)

@@ -1,10 +1,10 @@
 -- `choice::choose_many` meets its contract: its beams are those of the offsets, whose steps N2 decides.
 use mathlib.Core.Path.{_≡_, refl}
 use mathlib.Core.Bool.{true, cond}
-use Prim.Native.Nat.{ℕ}
 use native.Mathlib.Omega.{arith}
 use lib.Dec.{ltb}
 use borrow.Author.Needs.{needs}
+use borrow.Author.Tests.{lt-ltb, le-ltb}
 use Rattle.ground.proofs.Booleans.{cond-both}
 use Rattle.settings.specs.declared.Beam.{Beam}
 use Rattle.settings.specs.Settings.{isSetting, sizesOf}
@@ -16,75 +16,83 @@ use Rattle.report.proofs.Offsets.{said-three, said-four}
 use Rattle.report.proofs.choice.choose_many.Statement.{statement}
 use Rattle.report.proofs.choice.choose_many.Tie as tie
 
--- five layers need more than two ports, so B may be moved by any small step
-movable : (s : tie.Start) {k : Beam} → Small k
-    → let a = s .args in
-    (isSetting (a .r .n1) (a .r .n2) ≡ true) × (a .r .n1 ≡ 1 → ⊥) × (a .s ≡ sizesOf (a .r .n1) (a .r .n2)) × Small (a .x)
-    × Small k
-movable s =
-    let above : s .args .r .n1 ≡ 1 → ⊥ = λ two. omega (arith, two-ports-v (s .args .r) (s .pre .0) two, s .pre .4) in
-    base-movable (s .pre .0) above (s .pre .1) (s .pre .2)
+module _ (s : tie.Start) where
+  -- five layers need more than two ports, so B may be moved by any small step
+  movable : {k : Beam} → Small k
+      → let a = s .args in
+      (isSetting (a .r .n1) (a .r .n2) ≡ true) × (a .r .n1 ≡ 1 → ⊥) × (a .s ≡ sizesOf (a .r .n1) (a .r .n2))
+      × Small (a .a) × Small k
+  movable =
+      let above : s .args .r .n1 ≡ 1 → ⊥ = λ two. omega (arith, two-ports-v (s .args .r) (s .pre .0) two, s .pre .3) in
+      base-movable (s .pre .0) above (s .pre .1) (s .pre .2)
 
--- whichever of two small steps N2 decides on is small
-decided : (n2 : ℕ) {k a b : Beam} → k ≡ cond (ltb 1 n2) a b → Small a → Small b → Small k
-decided n2 e p q = rw e (cond-both Small (ltb 1 n2) p q)
-
--- a beam that was moved from B by a step
-from-base : (s : tie.Start) {y k j : Beam} → y ≡ moved (s .args .r) (s .args .x) k → k ≡ j
-    → y ≡ moved (s .args .r) (base (s .args .r)) j
-from-base s e = moved-from-base (s .args .r) e (s .pre .2)
-
-moved-by-requires : tie.Need-moved-by-requires
-moved-by-requires c κs = movable c (is-small (beam 1 0) tt)
+  -- and then it stands that step from B
+  from-base : {y k j : Beam} → y ≡ moved (s .args .r) (s .args .a) k → k ≡ j
+      → y ≡ moved (s .args .r) (base (s .args .r)) j
+  from-base e = moved-from-base (s .args .r) e (s .pre .2)
 
 moved-by-requires-2 : tie.Need-moved-by-requires-2
 moved-by-requires-2 c κs =
     let s = c .before .before .before .before in
-    movable s (decided (s .args .r .n2) (c .k-third .ensures) (is-small (beam 1 1) tt) (is-small (beam 2 0) tt))
+    movable s
+    (rw (c .k-third .ensures)
+    (cond-both Small (ltb 1 (s .args .r .n2)) (is-small (beam 1 1) tt) (is-small (beam 2 0) tt)))
 
 returns : tie.Need-returns
 returns c =
     let few = c .before .before .before in
-    let s = few .before .before .before in
-    let wide = ltb 1 (s .args .r .n2) in
-    let second = from-base s (few .before .before .moved-by .ensures) refl in
+    let b = few .before .before in
+    let s = b .before in
+    let second = from-base s (b .moved-by .ensures) refl in
     let last =
-    from-base s {j = cond wide (beam 1 1) (beam 2 0)} (c .before .moved-by2 .ensures) (c .before .before .k-third .ensures) in
-    said-three _ _ (from-base s (s .pre .3) refl) second (s .pre .4) (c .said .ensures) (few .if1 .taken) last
+    from-base s {j = cond (ltb 1 (s .args .r .n2)) (beam 1 1) (beam 2 0)} (c .before .moved-by2 .ensures)
+    (c .before .before .k-third .ensures) in
+    said-three _ _ (s .pre .2) second (s .pre .3) (c .said .ensures) (few .if1 .taken) last
 
-moved-by-requires-3 : tie.Need-moved-by-requires-3
-moved-by-requires-3 c κs =
-    let s = c .before .before .before .before in
-    movable s (decided (s .args .r .n2) (c .k-at .ensures) (is-small (beam 0 1) tt) (is-small (beam 2 0) tt))
-
-moved-by-requires-4 : tie.Need-moved-by-requires-4
-moved-by-requires-4 c κs =
-    let s = c .before .before .before .before .before .before in
-    movable s (decided (s .args .r .n2) (c .k-at2 .ensures) (is-small (beam 1 1) tt) (is-small (beam 3 0) tt))
+-- where the function starts, seen from behind the test of N2
+abbrev start : tie.After-struct-known2 → tie.Start
+start c = c .before .before .before .before
 
 returns-2 : tie.Need-returns-2
 returns-2 c =
-    let m3 = c .before .before .before in
-    let many = m3 .before .before in
-    let s = many .before .before .before in
-    let wide = ltb 1 (s .args .r .n2) in
+    let narrow = c .before .before .before in
+    let many = narrow .before .before in
+    let s = start (narrow .before) in
+    let n2 = s .args .r .n2 in
     let second = from-base s (many .before .before .moved-by .ensures) refl in
-    said-four _ _ (from-base s (s .pre .3) refl) second (s .pre .4) (c .said2 .ensures) (many .if1 .left)
-    (from-base s {j = cond wide (beam 0 1) (beam 2 0)} (m3 .moved-by3 .ensures) (m3 .before .k-at .ensures))
-    (from-base s {j = cond wide (beam 1 1) (beam 3 0)} (c .before .moved-by4 .ensures) (c .before .before .k-at2 .ensures))
+    said-four _ _ (s .pre .2) second (s .pre .3) (c .said2 .ensures) (many .if1 .left)
+    (from-base s {j = cond (ltb 1 n2) (beam 0 1) (beam 2 0)} (c .before .before .moved-by3 .ensures)
+    (rw (le-ltb 1 n2 (narrow .if2 .taken))))
+    (from-base s {j = cond (ltb 1 n2) (beam 1 1) (beam 3 0)} (c .before .moved-by4 .ensures)
+    (rw (le-ltb 1 n2 (narrow .if2 .taken))))
+
+returns-3 : tie.Need-returns-3
+returns-3 c =
+    let wide = c .before .before .before in
+    let many = wide .before .before in
+    let s = start (wide .before) in
+    let n2 = s .args .r .n2 in
+    let second = from-base s (many .before .before .moved-by .ensures) refl in
+    said-four _ _ (s .pre .2) second (s .pre .3) (c .said3 .ensures) (many .if1 .left)
+    (from-base s {j = cond (ltb 1 n2) (beam 0 1) (beam 2 0)} (c .before .before .moved-by5 .ensures)
+    (rw (lt-ltb 1 n2 (wide .if2 .left))))
+    (from-base s {j = cond (ltb 1 n2) (beam 1 1) (beam 3 0)} (c .before .moved-by6 .ensures)
+    (rw (lt-ltb 1 n2 (wide .if2 .left))))
 
 pub choose-many-spec : {M : Type 1} → statement M
 choose-many-spec =
     tie.close
     (tie.spec
-    moved-by-requires
+    (λ c κs. movable c (is-small (beam 1 0) tt))
     (λ c κs. search needs)
     moved-by-requires-2
     (λ c κs. search needs)
     returns
+    (λ c κs. movable (start (c .before)) (is-small (beam 2 0) tt))
+    (λ c κs. movable (start (c .before .before)) (is-small (beam 3 0) tt))
     (λ c κs. search needs)
-    moved-by-requires-3
+    returns-2
+    (λ c κs. movable (start (c .before)) (is-small (beam 0 1) tt))
+    (λ c κs. movable (start (c .before .before)) (is-small (beam 1 1) tt))
     (λ c κs. search needs)
-    moved-by-requires-4
-    (λ c κs. search needs)
-    returns-2)
+    returns-3)

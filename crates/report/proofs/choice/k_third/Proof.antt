@@ -1,7 +1,7 @@
--- `rows::k_third` meets its contract: its test is that of the contract.
+-- `choice::k_third` meets its contract: its test is that of the contract.
 use borrow.Author.Tests.{lt-ltb, le-ltb}
-use Rattle.report.proofs.rows.k_third.Statement.{statement}
-use Rattle.report.proofs.rows.k_third.Tie as tie
+use Rattle.report.proofs.choice.k_third.Statement.{statement}
+use Rattle.report.proofs.choice.k_third.Tie as tie
 
 returns : tie.Need-returns
 returns c = rw (le-ltb 1 _ (c .if1 .taken))
