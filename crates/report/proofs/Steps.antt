@@ -18,7 +18,7 @@ use Rattle.report.specs.declared.Report.{Report}
 use Rattle.report.specs.Rules.{InRange}
 use Rattle.report.specs.Beams.{isHalf, base, moved, Small}
 
--- a test for it, with a wide margin
+-- a beam of known numbers is small by its test
 abbrev isSmall : Beam → Bool
 isSmall x = leb (x .l) 255 && leb (x .m) 255
 

@@ -1,6 +1,7 @@
 -- `choice::choose_many` meets its contract: its beams are those of the offsets, whose steps N2 decides.
 use mathlib.Core.Path.{_≡_, refl}
-use mathlib.Core.Bool.{true, cond}
+use mathlib.Core.Bool.{true, false, cond}
+use mathlib.Core.List.{[], _∷_}
 use native.Mathlib.Omega.{arith}
 use lib.Dec.{ltb}
 use borrow.Author.Needs.{needs}
@@ -9,10 +10,11 @@ use Rattle.ground.proofs.Booleans.{cond-both}
 use Rattle.settings.specs.declared.Beam.{Beam}
 use Rattle.settings.specs.Settings.{isSetting, sizesOf}
 use Rattle.settings.specs.Ranges.{beam}
-use Rattle.report.specs.Beams.{base, moved, Small}
+use Rattle.report.specs.declared.Beams.{Beams}
+use Rattle.report.specs.Beams.{base, moved, saidOf, Small}
 use Rattle.report.proofs.InRange.{two-ports-v}
 use Rattle.report.proofs.Steps.{is-small, base-movable, moved-from-base}
-use Rattle.report.proofs.Offsets.{said-three, said-four}
+use Rattle.report.proofs.Offsets.{saidAll, said-three, said-four}
 use Rattle.report.proofs.choice.choose_many.Statement.{statement}
 use Rattle.report.proofs.choice.choose_many.Tie as tie
 
@@ -53,31 +55,30 @@ returns c =
 abbrev start : tie.After-struct-known2 → tie.Start
 start c = c .before .before .before .before
 
+-- seven and eight layers, where the steps to the last two beams are those that N2 decides on
+four : (c : tie.After-struct-known2) {y : Beams} {third fourth k j : Beam}
+    → let s = start c in
+    let b = c .before .before .before .moved-by .result in
+    y ≡ saidOf (s .args .r) (s .args .s) false 4 (s .args .a ∷ b ∷ third ∷ fourth ∷ [])
+    → third ≡ moved (s .args .r) (s .args .a) k → k ≡ cond (ltb 1 (s .args .r .n2)) (beam 0 1) (beam 2 0)
+    → fourth ≡ moved (s .args .r) (s .args .a) j → j ≡ cond (ltb 1 (s .args .r .n2)) (beam 1 1) (beam 3 0)
+    → y ≡ saidAll (s .args .r) (s .args .s)
+four c e third k fourth j =
+    let s = start c in
+    let second = from-base s (c .before .before .before .moved-by .ensures) refl in
+    said-four _ _ (s .pre .2) second (s .pre .3) e (c .before .if1 .left) (from-base s third k) (from-base s fourth j)
+
 returns-2 : tie.Need-returns-2
 returns-2 c =
     let narrow = c .before .before .before in
-    let many = narrow .before .before in
-    let s = start (narrow .before) in
-    let n2 = s .args .r .n2 in
-    let second = from-base s (many .before .before .moved-by .ensures) refl in
-    said-four _ _ (s .pre .2) second (s .pre .3) (c .said2 .ensures) (many .if1 .left)
-    (from-base s {j = cond (ltb 1 n2) (beam 0 1) (beam 2 0)} (c .before .before .moved-by3 .ensures)
-    (rw (le-ltb 1 n2 (narrow .if2 .taken))))
-    (from-base s {j = cond (ltb 1 n2) (beam 1 1) (beam 3 0)} (c .before .moved-by4 .ensures)
-    (rw (le-ltb 1 n2 (narrow .if2 .taken))))
+    let e = le-ltb 1 _ (narrow .if2 .taken) in
+    four (narrow .before) (c .said2 .ensures) (c .before .before .moved-by3 .ensures) (rw e) (c .before .moved-by4 .ensures) (rw e)
 
 returns-3 : tie.Need-returns-3
 returns-3 c =
     let wide = c .before .before .before in
-    let many = wide .before .before in
-    let s = start (wide .before) in
-    let n2 = s .args .r .n2 in
-    let second = from-base s (many .before .before .moved-by .ensures) refl in
-    said-four _ _ (s .pre .2) second (s .pre .3) (c .said3 .ensures) (many .if1 .left)
-    (from-base s {j = cond (ltb 1 n2) (beam 0 1) (beam 2 0)} (c .before .before .moved-by5 .ensures)
-    (rw (lt-ltb 1 n2 (wide .if2 .left))))
-    (from-base s {j = cond (ltb 1 n2) (beam 1 1) (beam 3 0)} (c .before .moved-by6 .ensures)
-    (rw (lt-ltb 1 n2 (wide .if2 .left))))
+    let e = lt-ltb 1 _ (wide .if2 .left) in
+    four (wide .before) (c .said3 .ensures) (c .before .before .moved-by5 .ensures) (rw e) (c .before .moved-by6 .ensures) (rw e)
 
 pub choose-many-spec : {M : Type 1} → statement M
 choose-many-spec =
