@@ -11,6 +11,7 @@ using Complex = std::complex<double>;
 using Eigen::MatrixXcd;
 using Eigen::VectorXcd;
 using Report = aspenflick_report;
+using Beam = aspenflick_beam;
 
 namespace {
 
@@ -19,8 +20,6 @@ struct Setting { uint32_t n1, n2; };
 const std::vector<Setting> settings = {
     {1, 1}, {2, 1}, {2, 2}, {4, 1}, {3, 2}, {6, 1}, {4, 2}, {8, 1}, {4, 3}, {6, 2}, {12, 1}, {4, 4}, {8, 2}, {16, 1},
 };
-
-struct Beam { uint32_t l, m; };
 
 uint32_t ports(const Report &r) { return 2 * r.n1 * r.n2; }
 uint32_t o1(const Report &r) { return r.n1 > 1 ? 4 : 1; }
@@ -127,17 +126,24 @@ VectorXcd beamVector(const Report &r, const Beam &b) {
     return Eigen::kroneckerProduct(x, u);
 }
 
-// The precoder of an accepted report, P by v.
-MatrixXcd precoder(const Report &r) {
+// A beam and its vector.
+struct Direction { Beam pair; VectorXcd vector; };
+
+// The precoder of an accepted report, P by v. Names the beam of each layer in the record.
+MatrixXcd precoder(const Report &r, aspenflick_record &record) {
     uint32_t n;
-    std::vector<VectorXcd> x;
-    for (const Beam &b : beamsOf(r, n)) x.push_back(beamVector(r, b));
+    std::vector<Direction> x;
+    for (const Beam &b : beamsOf(r, n)) x.push_back({b, beamVector(r, b)});
     Complex f = std::polar(1.0, M_PI / 2 * n), one = 1.0;
     MatrixXcd w(ports(r), r.v);
-    auto column = [&](int j, const VectorXcd &v, Complex c) { w.col(j) << v, c * v; };
+    auto column = [&](int j, const Direction &d, Complex c) {
+        w.col(j) << d.vector, c * d.vector;
+        record.beams[j] = d.pair;
+    };
     if (halfLength(r)) {
         Complex t = std::polar(1.0, M_PI / 4 * r.i13);
-        const VectorXcd &h = x[0];
+        const VectorXcd &h = x[0].vector;
+        for (uint32_t j = 0; j < r.v; j++) record.beams[j] = {2 * x[0].pair.l, x[0].pair.m};
         w.col(0) << h, t * h, f * h, f * t * h;
         w.col(1) << h, -t * h, f * h, -f * t * h;
         w.col(2) << h, t * h, -f * h, -f * t * h;
@@ -176,34 +182,37 @@ MatrixXcd precoder(const Report &r) {
     return w / std::sqrt(double(r.v * ports(r)));
 }
 
-aspenflick_record accepted(const Report &r) { return {0, ports(r), r.v, r.v * ports(r)}; }
+aspenflick_record refused(uint32_t refusal) { return {refusal, 0, 0, 0, {}}; }
+aspenflick_record accepted(const Report &r) { return {0, ports(r), r.v, r.v * ports(r), {}}; }
 
 } // namespace
 
-extern "C" aspenflick_record eigen_phases(aspenflick_report r, const uint8_t *beams, size_t beams_len, uint8_t ranks,
+extern "C" aspenflick_record eigen_phases(aspenflick_report r, const uint8_t *mask, size_t mask_len, uint8_t ranks,
                                           uint8_t *out, size_t out_len) {
-    uint32_t refusal = judge(r, beams, beams_len, ranks, out_len);
-    if (refusal != 0) return {refusal, 0, 0, 0};
-    MatrixXcd w = precoder(r);
+    uint32_t refusal = judge(r, mask, mask_len, ranks, out_len);
+    if (refusal != 0) return refused(refusal);
+    aspenflick_record record = accepted(r);
+    MatrixXcd w = precoder(r, record);
     for (Eigen::Index j = 0; j < w.cols(); j++) {
         for (Eigen::Index i = 0; i < w.rows(); i++) {
             long phase = std::lround(std::arg(w(i, j)) * 192 / (2 * M_PI));
             *out++ = (phase + 192) % 192;
         }
     }
-    return accepted(r);
+    return record;
 }
 
-extern "C" aspenflick_record eigen_weights(aspenflick_report r, const uint8_t *beams, size_t beams_len, uint8_t ranks,
+extern "C" aspenflick_record eigen_weights(aspenflick_report r, const uint8_t *mask, size_t mask_len, uint8_t ranks,
                                            int16_t *out, size_t out_len) {
-    uint32_t refusal = judge(r, beams, beams_len, ranks, out_len / 2);
-    if (refusal != 0) return {refusal, 0, 0, 0};
-    MatrixXcd w = precoder(r) * (16384 * std::sqrt(double(r.v * ports(r))));
+    uint32_t refusal = judge(r, mask, mask_len, ranks, out_len / 2);
+    if (refusal != 0) return refused(refusal);
+    aspenflick_record record = accepted(r);
+    MatrixXcd w = precoder(r, record) * (16384 * std::sqrt(double(r.v * ports(r))));
     for (Eigen::Index j = 0; j < w.cols(); j++) {
         for (Eigen::Index i = 0; i < w.rows(); i++) {
             *out++ = std::lround(w(i, j).real());
             *out++ = std::lround(w(i, j).imag());
         }
     }
-    return accepted(r);
+    return record;
 }

@@ -22,7 +22,7 @@
 #include <ucontext.h>
 #include <unistd.h>
 
-#define FUNCTION(name, report, number) aspenflick_record name(report r, const uint8_t *beams, size_t beams_len, \
+#define FUNCTION(name, report, number) aspenflick_record name(report r, const uint8_t *mask, size_t mask_len, \
                                                               uint8_t ranks, number *out, size_t out_len)
 #define PHASES(name) FUNCTION(name, aspenflick_report, uint8_t)
 #define WEIGHTS(name) FUNCTION(name, aspenflick_report, int16_t)

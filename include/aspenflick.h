@@ -4,7 +4,7 @@
 // A call answers any numbers, masks and lengths. It allocates nothing, takes less than 2,048 bytes of stack (measured,
 // not proved) and keeps no state, so several threads may call at once, each with an `out` of its own. A struct goes by
 // value. A slice is a pointer to entries and then their number: the pointer must not be null and must be aligned for
-// them, also where there are none, and `out` must not overlap `beams`. Nothing else of the caller's is read or written.
+// them, also where there are none, and `out` must not overlap `mask`. Nothing else of the caller's is read or written.
 // The answer to a report is determined by the report, both masks, the length of `out`, which function is called, and the
 // version of the library: whoever files answers keeps these.
 //
@@ -43,11 +43,16 @@
 //     i14: 4 1 1 with two panels in mode 1, 4 4 1 with two panels in mode 2, 4 4 4 with four panels
 //
 // Bit k of a mask is bit k mod 8, from the lowest, of byte k / 8. A zero bit bars. `ranks` has bit v-1 for v layers.
-// `beams` has 4*n1*M bits, bit l*M + m for the beam (l,m), l modulo 4*n1 and m modulo M; for several panels it is the mask
+// `mask` has 4*n1*M bits, bit l*M + m for the beam (l,m), l modulo 4*n1 and m modulo M; for several panels it is the mask
 // of one of them. Two ports have one byte: bits 0 to 3 for i2 with one layer, bits 4 and 5 for i2 with two. Three and four
 // layers of one panel with 16 ports or more have half-length beams, for which three bits are read, those of
 // (2*i11 - 1, i12), (2*i11, i12) and (2*i11 + 1, i12); at i11 = 0 the first is that of (4*n1 - 1, i12). One zero among them
 // bars the report. Several panels have no half-length beams.
+//
+// The record of an accepted report names the beam of each layer, with l below 4*n1 and m below M: its bit of `mask` is one.
+// Layers that have one beam repeat it; a half-length beam is named (2*i11, i12), the middle one of its three; in a layer of
+// several panels, which all have one beam, that is named once. Places from v on are (0,0), which is a beam too: they say
+// nothing. Two ports have no beams, and all places are (0,0).
 //
 // Made from the proved crates by tools/header; not edited by hand.
 #ifndef ASPENFLICK_H
@@ -58,23 +63,23 @@
 
 // The version of the library. A struct, a parameter or a constant that changes makes the first number another, and every
 // function is linked by a name that ends with it: a program compiled with a header of another major number does not link.
-#define ASPENFLICK_VERSION_MAJOR 1
-#define ASPENFLICK_VERSION_MINOR 3
+#define ASPENFLICK_VERSION_MAJOR 2
+#define ASPENFLICK_VERSION_MINOR 0
 #define ASPENFLICK_VERSION_PATCH 0
 
-// The largest sizes: ports, layers, numbers in `out` for phases and for weights, bytes of `beams`.
+// The largest sizes: ports, layers, numbers in `out` for phases and for weights, bytes of `mask`.
 #define ASPENFLICK_MOST_PORTS 32
 #define ASPENFLICK_MOST_LAYERS 8
 #define ASPENFLICK_MOST_PHASES 256
 #define ASPENFLICK_MOST_WEIGHTS 512
 #define ASPENFLICK_MOST_MASK_BYTES 32
 
-// The refusals, in the order in which they are tried. The first that applies is given; the record's other numbers are then
-// 0 and `out` stays as lent.
+// The refusals, in the order in which they are tried. The first that applies is given; the record's other numbers, those
+// of its beams among them, are then 0 and `out` stays as lent.
 #define ASPENFLICK_ACCEPTED 0         // none applies
 #define ASPENFLICK_NO_SETTING 1       // (n1,n2), or (ng,n1,n2), is not a setting
 #define ASPENFLICK_NO_MODE 2          // mode is neither 1 nor 2, or is 2 with four panels
-#define ASPENFLICK_MASK_LENGTH 3      // `beams` has not exactly the bytes needed
+#define ASPENFLICK_MASK_LENGTH 3      // `mask` has not exactly the bytes needed
 #define ASPENFLICK_NO_RANK 4          // v is 0, above 8 or above P; for panels, above 4
 #define ASPENFLICK_RANK_BARRED 5      // bit v-1 of `ranks` is zero
 #define ASPENFLICK_I11_RANGE 6        // i11 is out of range
@@ -82,7 +87,7 @@
 #define ASPENFLICK_I13_RANGE 8        // i13 is out of range
 #define ASPENFLICK_I14_RANGE 12       // a number of i14 is out of range
 #define ASPENFLICK_I2_RANGE 9         // i2, or a number of it, is out of range
-#define ASPENFLICK_BEAM_BARRED 10     // a bit of `beams` that the report reads is zero
+#define ASPENFLICK_BEAM_BARRED 10     // a bit of `mask` that the report reads is zero
 #define ASPENFLICK_NO_ROOM 11         // `out` is too short: v*P bytes are needed, or 2*v*P numbers for weights
 
 // What a step of a log is.
@@ -99,13 +104,13 @@
 #define ASPENFLICK_VERSION (10000 * ASPENFLICK_VERSION_MAJOR + 100 * ASPENFLICK_VERSION_MINOR + ASPENFLICK_VERSION_PATCH)
 
 // The names by which the functions are linked.
-#define aspenflick_version aspenflick_version_1
-#define aspenflick_mask_bytes aspenflick_mask_bytes_1
-#define aspenflick_phases aspenflick_phases_1
-#define aspenflick_weights aspenflick_weights_1
-#define aspenflick_panel_phases aspenflick_panel_phases_1
-#define aspenflick_panel_weights aspenflick_panel_weights_1
-#define aspenflick_log_next aspenflick_log_next_1
+#define aspenflick_version aspenflick_version_2
+#define aspenflick_mask_bytes aspenflick_mask_bytes_2
+#define aspenflick_phases aspenflick_phases_2
+#define aspenflick_weights aspenflick_weights_2
+#define aspenflick_panel_phases aspenflick_panel_phases_2
+#define aspenflick_panel_weights aspenflick_panel_weights_2
+#define aspenflick_log_next aspenflick_log_next_2
 
 #ifdef __cplusplus
 extern "C" {
@@ -114,9 +119,14 @@ extern "C" {
 // A report: the setting (N1,N2), the codebook mode, the rank v, and the indices.
 typedef struct { uint32_t n1, n2, mode, v, i11, i12, i13, i2; } aspenflick_report;
 
-// What a call answers: the number of the refusal and zeros, or 0, the ports P, the layers v and the scale v*P. A true
-// precoder is the entries divided by the square root of the scale.
-typedef struct { uint32_t refusal, ports, layers, scale; } aspenflick_record;
+// The beam (l,m), or a step from one beam to another.
+typedef struct { uint32_t l, m; } aspenflick_beam;
+
+// What a call answers: the number of the refusal and zeros; or 0, the ports P, the layers v, the scale v*P, and for each
+// layer its beam (l,m), reduced: layers of one beam repeat it, and a half-length beam of (l,m) stands as (2*l, m). Beams
+// past the last layer are (0,0), and so are all of two ports. A true precoder is the entries divided by the square root of
+// the scale.
+typedef struct { uint32_t refusal, ports, layers, scale; aspenflick_beam beams[8]; } aspenflick_record;
 
 // A report of several panels: the setting (Ng,N1,N2), the codebook mode, the rank v, and the indices. Numbers of i14 and i2
 // that are not used are 0.
@@ -136,27 +146,27 @@ uint32_t aspenflick_mask_bytes(uint32_t n1, uint32_t n2);
 
 // Writes the phases of a report's precoder, each 0 to 191 in 1/192 turns: layer after layer, each of P entries, the first
 // polarisation first. Entries past the v*P of the answer stay as lent. (2,1) with mode 1, v = 1, i11 = 1, i2 = 1 and the
-// rest 0 gives 0 24 48 72.
-aspenflick_record aspenflick_phases(aspenflick_report r, const uint8_t *beams, size_t beams_len, uint8_t ranks,
-                                    uint8_t *out, size_t out_len);
+// rest 0 gives 0 24 48 72 and names the beam (1,0).
+aspenflick_record aspenflick_phases(aspenflick_report r, const uint8_t *mask, size_t mask_len, uint8_t ranks, uint8_t *out,
+                                    size_t out_len);
 
 // Writes the weights of a report's precoder: for each entry that `aspenflick_phases` writes, x and then y, the whole
 // numbers nearest to 16384 times the cosine and the sine of its phase; a true precoder is divided by 16384 too. `out_len`
 // counts 16-bit numbers. Numbers past the 2*v*P of the answer stay as lent. The report above gives 16384 0 11585 11585
 // 0 16384 -11585 11585.
-aspenflick_record aspenflick_weights(aspenflick_report r, const uint8_t *beams, size_t beams_len, uint8_t ranks,
+aspenflick_record aspenflick_weights(aspenflick_report r, const uint8_t *mask, size_t mask_len, uint8_t ranks,
                                      int16_t *out, size_t out_len);
 
 // Writes the phases of a multi-panel report's precoder as `aspenflick_phases` does: layer after layer, each of P entries,
 // panel by panel, the first polarisation of a panel first. (2,2,1) with mode 1, v = 1, i11 = 1, i14 = 1 0 0, i2 = 2 0 0
 // and the rest 0 gives 0 24 96 120 48 72 144 168.
-aspenflick_record aspenflick_panel_phases(aspenflick_panel_report r, const uint8_t *beams, size_t beams_len, uint8_t ranks,
+aspenflick_record aspenflick_panel_phases(aspenflick_panel_report r, const uint8_t *mask, size_t mask_len, uint8_t ranks,
                                           uint8_t *out, size_t out_len);
 
 // Writes the weights of a multi-panel report's precoder: for each entry that `aspenflick_panel_phases` writes, x and then y,
 // as `aspenflick_weights` does.
-aspenflick_record aspenflick_panel_weights(aspenflick_panel_report r, const uint8_t *beams, size_t beams_len,
-                                           uint8_t ranks, int16_t *out, size_t out_len);
+aspenflick_record aspenflick_panel_weights(aspenflick_panel_report r, const uint8_t *mask, size_t mask_len, uint8_t ranks,
+                                           int16_t *out, size_t out_len);
 
 // Reads one step of a log of reports: what stands at the place `from`, which is the front, 0, or the `next` of the step
 // before. A log is a plain run of numbers, eight to a report: n1, n2, mode, v, i11, i12, i13, i2. A number is written in

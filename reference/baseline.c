@@ -8,7 +8,8 @@ enum { MOST_PANELS = 4, MOST_PANEL_N1 = 8, MOST_PANEL_N2 = 2, MOST_PANEL_V = 4, 
 
 typedef struct { uint8_t l, m; } beam;
 
-// An accepted report: rows by columns of its beams, its blocks of ports, f and t, and B, B', B'', B''', reduced.
+// An accepted report: rows by columns of its beams, its blocks of ports, f and t, and B, B', B'', B''', reduced. A
+// half-length beam stands twice, and two ports have (0,0).
 typedef struct {
     uint8_t ports, rows, columns, blocks, f, t;
     beam beams[4];
@@ -179,6 +180,7 @@ static uint32_t judge(const aspenflick_report *r, const uint8_t *mask, size_t ma
         // The beams of the rows before and after; before row 0 stands the last.
         unsigned before = l ? l - 1 : across - 1;
         if (!mask_bit(mask, down * before + m) || !mask_bit(mask, down * (l + 1) + m)) return 10;
+        p->beams[1] = p->beams[0];
     }
     if (room < v * ports) return 11;
 
@@ -253,7 +255,7 @@ static void write_layers(const aspenflick_report *r, const plan *p, uint8_t *out
     size_t size = p->rows * p->columns;
     for (size_t j = 0; j < r->v; j++, out += p->ports) {
         const column *c = &columns_of[r->v][j];
-        const beam *b = &p->beams[p->blocks == 4 ? 0 : c->place];
+        const beam *b = &p->beams[c->place];
         write_beam(out, p->rows, p->columns, b->l * step_of[r->n1], b->m * step_of[r->n2]);
         uint8_t second = c->times_f ? turned(p->f, c->added) : c->added;
         if (p->blocks == 2) {
@@ -288,9 +290,17 @@ static void write_panels(const aspenflick_panel_report *r, const panel_plan *p, 
     }
 }
 
-static aspenflick_record refused(uint32_t refusal) { return (aspenflick_record){refusal, 0, 0, 0}; }
+static aspenflick_record refused(uint32_t refusal) { return (aspenflick_record){.refusal = refusal}; }
 
-static aspenflick_record accepted(uint32_t ports, uint32_t v) { return (aspenflick_record){0, ports, v, v * ports}; }
+// Names the beam of each layer, by its place among these.
+static aspenflick_record accepted(uint32_t ports, uint32_t v, const beam *beams) {
+    aspenflick_record record = {.ports = ports, .layers = v, .scale = v * ports};
+    for (size_t j = 0; j < v; j++) {
+        const beam *b = &beams[columns_of[v][j].place];
+        record.beams[j] = (aspenflick_beam){b->l, b->m};
+    }
+    return record;
+}
 
 static void write_weights(int16_t *restrict out, const uint8_t *restrict phases, size_t n) {
     for (size_t i = 0; i < n; i++) {
@@ -299,42 +309,42 @@ static void write_weights(int16_t *restrict out, const uint8_t *restrict phases,
     }
 }
 
-aspenflick_record baseline_phases(aspenflick_report r, const uint8_t *beams, size_t beams_len, uint8_t ranks,
+aspenflick_record baseline_phases(aspenflick_report r, const uint8_t *mask, size_t mask_len, uint8_t ranks,
                                   uint8_t *out, size_t out_len) {
     plan p;
-    uint32_t refusal = judge(&r, beams, beams_len, ranks, out_len, &p);
+    uint32_t refusal = judge(&r, mask, mask_len, ranks, out_len, &p);
     if (refusal) return refused(refusal);
     write_layers(&r, &p, out);
-    return accepted(p.ports, r.v);
+    return accepted(p.ports, r.v, p.beams);
 }
 
-aspenflick_record baseline_weights(aspenflick_report r, const uint8_t *beams, size_t beams_len, uint8_t ranks,
+aspenflick_record baseline_weights(aspenflick_report r, const uint8_t *mask, size_t mask_len, uint8_t ranks,
                                    int16_t *out, size_t out_len) {
     plan p;
-    uint32_t refusal = judge(&r, beams, beams_len, ranks, out_len / 2, &p);
+    uint32_t refusal = judge(&r, mask, mask_len, ranks, out_len / 2, &p);
     if (refusal) return refused(refusal);
     uint8_t phases[MOST_ENTRIES];
     write_layers(&r, &p, phases);
     write_weights(out, phases, r.v * p.ports);
-    return accepted(p.ports, r.v);
+    return accepted(p.ports, r.v, p.beams);
 }
 
-aspenflick_record baseline_panel_phases(aspenflick_panel_report r, const uint8_t *beams, size_t beams_len, uint8_t ranks,
+aspenflick_record baseline_panel_phases(aspenflick_panel_report r, const uint8_t *mask, size_t mask_len, uint8_t ranks,
                                         uint8_t *out, size_t out_len) {
     panel_plan p;
-    uint32_t refusal = judge_panels(&r, beams, beams_len, ranks, out_len, &p);
+    uint32_t refusal = judge_panels(&r, mask, mask_len, ranks, out_len, &p);
     if (refusal) return refused(refusal);
     write_panels(&r, &p, out);
-    return accepted(p.ports, r.v);
+    return accepted(p.ports, r.v, p.beams);
 }
 
-aspenflick_record baseline_panel_weights(aspenflick_panel_report r, const uint8_t *beams, size_t beams_len, uint8_t ranks,
+aspenflick_record baseline_panel_weights(aspenflick_panel_report r, const uint8_t *mask, size_t mask_len, uint8_t ranks,
                                          int16_t *out, size_t out_len) {
     panel_plan p;
-    uint32_t refusal = judge_panels(&r, beams, beams_len, ranks, out_len / 2, &p);
+    uint32_t refusal = judge_panels(&r, mask, mask_len, ranks, out_len / 2, &p);
     if (refusal) return refused(refusal);
     uint8_t phases[MOST_PANEL_ENTRIES];
     write_panels(&r, &p, phases);
     write_weights(out, phases, r.v * p.ports);
-    return accepted(p.ports, r.v);
+    return accepted(p.ports, r.v, p.beams);
 }

@@ -1,11 +1,11 @@
 // The whole job in plain C: each answers as the function of the library that has its name after aspenflick_.
 #include "aspenflick.h"
 
-aspenflick_record baseline_phases(aspenflick_report r, const uint8_t *beams, size_t beams_len, uint8_t ranks,
+aspenflick_record baseline_phases(aspenflick_report r, const uint8_t *mask, size_t mask_len, uint8_t ranks,
                                   uint8_t *out, size_t out_len);
-aspenflick_record baseline_weights(aspenflick_report r, const uint8_t *beams, size_t beams_len, uint8_t ranks,
+aspenflick_record baseline_weights(aspenflick_report r, const uint8_t *mask, size_t mask_len, uint8_t ranks,
                                    int16_t *out, size_t out_len);
-aspenflick_record baseline_panel_phases(aspenflick_panel_report r, const uint8_t *beams, size_t beams_len, uint8_t ranks,
+aspenflick_record baseline_panel_phases(aspenflick_panel_report r, const uint8_t *mask, size_t mask_len, uint8_t ranks,
                                         uint8_t *out, size_t out_len);
-aspenflick_record baseline_panel_weights(aspenflick_panel_report r, const uint8_t *beams, size_t beams_len, uint8_t ranks,
+aspenflick_record baseline_panel_weights(aspenflick_panel_report r, const uint8_t *mask, size_t mask_len, uint8_t ranks,
                                          int16_t *out, size_t out_len);

@@ -16,13 +16,17 @@ What is sent, for each of the two functions
   random     requests drawn from legal numbers, bounds and extremes, answered by the whole model
 Of a codebook with very many reports only a part is sent into longer and shorter buffers and with such masks; its
 docstring says which.
-On a refusal the record's other numbers are 0 and the buffer is as lent. Bytes around the buffer and the mask, and the
-mask, never change. No call of phases uses more than 1,024 bytes of stack, no call of weights more than 2,048.
+On a refusal the record's other numbers, l and m of its beams among them, are 0 and the buffer is as lent. Bytes around
+the buffer and the mask, and the mask, never change. No call of phases uses more than 1,024 bytes of stack, no call of
+weights more than 2,048.
 
 What is asked of the answers, for every report
 ----------------------------------------------
 These are computed from the numbers that came from the library, not from the model; of equal answers, from one:
   phases     every two layers are exactly orthogonal, by the count rule of 01, which is itself held against complex sums
+  beams      every layer of phases begins with the entries of v_{l,m} for the (l,m) that the record names for it, a
+             half-length one with the first half of them; places behind the layers' have (0,0). That this fails where
+             beams are spoiled is itself tested
   weights    the cross-sum of every two layers, the power of every weight, the power of every port over the layers, and
              how far the powers of two ports differ are within the limits that are proved; the worst of each is the
              figure known for it
@@ -91,10 +95,10 @@ def needed(function, s, v):
     return function.parts * v * s.P
 
 
-# What is known of all reports: how many there are, their phases, their pairs of layers, the phases that they have; the
-# worst part of a cross-sum; the lowest and the highest power of a weight, less 16384 squared; how far the powers of two
-# ports differ at most, and the setting and the rank where they do.
-Known = collections.namedtuple('Known', 'reports phases pairs reached part lowest highest apart apart_at')
+# What is known of all reports: how many there are, their phases, their layers, their pairs of layers, the phases that they
+# have; the worst part of a cross-sum; the lowest and the highest power of a weight, less 16384 squared; how far the powers
+# of two ports differ at most, and the setting and the rank where they do.
+Known = collections.namedtuple('Known', 'reports phases layers pairs reached part lowest highest apart apart_at')
 
 
 class Codebook:
@@ -110,6 +114,8 @@ class Codebook:
     values        of a setting, mode and rank: how many values each index has
     mask_bits     of a setting: how many bits the beam mask has
     bits_of       of a report in range: the bits of the beam mask that it reads
+    beams_of      of a report in range: the bytes of the beams that the record names, made by places_of
+    first_rows    of a setting and rank: by (l,m), the phases with which a layer of that beam begins
     answer_of     of a function and a report in range: the bytes of the answer, layer after layer
     below         what is no setting is tried for all numbers below these
     extremes      and for these in every place
@@ -202,9 +208,29 @@ class Codebook:
 
 # ---- Requests and answers, as batch.c reads and writes them ----------------------------------------------------------
 
-TAIL, RECORD, STACK = struct.Struct('<HB'), struct.Struct('<4I'), struct.Struct(f'<{CODES}I')
+TAIL, STACK = struct.Struct('<HB'), struct.Struct(f'<{CODES}I')
+# A record: refusal, ports, layers and scale, and then l and m of the beam in each of its places.
+PLACES = 8
+NUMBERS, BEAMS = struct.Struct('<4I'), struct.Struct(f'<{2 * PLACES}I')
+RECORD_SIZE = NUMBERS.size + BEAMS.size
 LENT = [bytes((fill + 37 * i) % 256 for i in range(256)) for fill in range(256)]
 MOST_LINES = 20
+
+
+def places_of(pairs):
+    """The bytes of a record's beams: these pairs (l,m), and (0,0) in the places behind them."""
+    numbers = [*itertools.chain(*pairs)]
+    return BEAMS.pack(*numbers, *[0] * (2 * PLACES - len(numbers)))
+
+
+@functools.lru_cache(maxsize=None)
+def pairs_in(data):
+    """The pairs (l,m) of all places in the bytes of a record's beams."""
+    numbers = BEAMS.unpack(data)
+    return tuple(zip(numbers[::2], numbers[1::2]))
+
+
+NO_BEAMS = places_of([])
 
 
 def as_lent(fill, size, start=0):
@@ -227,14 +253,18 @@ def show_request(function, report, ranks, mask, length, fill):
             f'buffer {length} from {fill}')
 
 
+def show_record(answer):
+    beams = pairs_in(answer[NUMBERS.size:RECORD_SIZE])
+    return ' '.join([*map(str, NUMBERS.unpack_from(answer)), *[f'({l},{m})' for l, m in beams]])
+
+
 def show_difference(function, answer, came):
     if len(came) < len(answer):
         return 'no answer came'
-    text = 'expected record {} {} {} {}, '.format(*RECORD.unpack_from(answer))
-    text += 'came {} {} {} {}'.format(*RECORD.unpack_from(came))
-    if came[RECORD.size] != 1:
+    text = f'expected record {show_record(answer)}, came {show_record(came)}'
+    if came[RECORD_SIZE] != 1:
         text += '; the mask or a guard changed'
-    numbers = zip(*[numbers_of(function, data[RECORD.size + 1:]) for data in (answer, came)])
+    numbers = zip(*[numbers_of(function, data[RECORD_SIZE + 1:]) for data in (answer, came)])
     different = [(place, x, y) for place, (x, y) in enumerate(numbers) if x != y]
     if different:
         text += '; expected number {} {}, came {}'.format(*different[0]) + f' ({len(different)} numbers differ)'
@@ -289,10 +319,10 @@ class Tests:
         self.requests += self.head.pack(function.code, *report, ranks, len(mask)) + mask + TAIL.pack(length, fill)
         size = function.width * length
         if number:
-            self.answers += RECORD.pack(number, 0, 0, 0) + b'\1' + as_lent(fill, size)
+            self.answers += NUMBERS.pack(number, 0, 0, 0) + NO_BEAMS + b'\1' + as_lent(fill, size)
         else:
             answer, ports, layers = self.book.answer_of(function, report), self.book.setting_of(report).P, report.v
-            self.answers += RECORD.pack(0, ports, layers, layers * ports) + b'\1' + answer
+            self.answers += NUMBERS.pack(0, ports, layers, layers * ports) + self.book.beams_of(report) + b'\1' + answer
             self.answers += as_lent(fill, size, len(answer))
 
     def run(self, command):
@@ -441,6 +471,30 @@ def layers_in(answer, v):
     return [answer[k:k + size] for k in range(0, v * size, size)]
 
 
+def are_named(rows, pairs, answer, v):
+    """Whether each layer begins with the phases that `rows` has for its pair, and places behind the layers' have (0,0)."""
+    size = len(answer) // v
+    begins = [pair in rows and answer.startswith(rows[pair], k * size) for k, pair in enumerate(pairs[:v])]
+    return all(begins) and not any(map(any, pairs[v:]))
+
+
+def spoiled_beams(tests):
+    """The beams of corner reports, by the model, with a wrong one for the last layer: left out, another, not reduced."""
+    book = tests.book
+    tests.begin('spoiled beams are seen')
+    for s, mode, v in book.groups():
+        for report in book.corner_reports(s, mode, v):
+            rows, answer = book.first_rows(s, v), book.answer_of(book.phases, report)
+            *before, last = pairs_in(book.beams_of(report))[:v]
+            l, m = last
+            for pair in {last, (0, 0), (l + 1, m), (l + s.N1 * s.O1, m), (l, m + s.N2 * s.O2)}:
+                seen = not are_named(rows, pairs_in(places_of([*before, pair])), answer, v)
+                tests.check(seen == (pair != last), f'{show_report(report)}: {pair} for {last}')
+            if v < PLACES:
+                seen = not are_named(rows, pairs_in(places_of([*before, last, (1, 0)])), answer, v)
+                tests.check(seen, f'{show_report(report)}: a beam too many')
+
+
 @functools.lru_cache(maxsize=None)
 def orthogonal(first, second):
     """Whether two layers of phases are so, exactly."""
@@ -508,7 +562,7 @@ class Asked:
     """What is asked of the answers as they came, setting by setting, and the worst of all."""
 
     def __init__(self, tests):
-        self.tests, self.reached, self.pairs = tests, set(), 0
+        self.tests, self.reached, self.layers, self.pairs = tests, set(), 0, 0
         self.part, self.low, self.high, self.apart = Worst(), Worst(min), Worst(), Worst()
 
     def of(self, function, s):
@@ -516,8 +570,10 @@ class Asked:
         for mode, v, reports in self.tests.reports:
             answers = self.answers(function, s, v, reports)
             if function is self.tests.book.phases:
-                self.reached.update(*answers)
+                self.reached.update(*[phases for _, phases in answers])
                 self.orthogonality(s, mode, v, answers)
+                self.beams(s, mode, v, answers)
+                self.layers += v * len(reports)
             else:
                 self.cross_sums(s, mode, v, answers)
                 self.powers(s, mode, v, answers)
@@ -526,12 +582,14 @@ class Asked:
             cache.cache_clear()
 
     def answers(self, function, s, v, reports):
-        """The answers that came, without the record, each with the first report that has it: equal ones are asked once."""
-        size, answers = function.width * needed(function, s, v), {}
+        """The beams and the answers that came, each with the first report that has them: equal ones are asked once."""
+        came, size, answers = self.tests.came, function.width * needed(function, s, v), {}
         for report, at in reports:
-            at += RECORD.size + 1
-            # What did not come counts as bytes that no test allows: equal phases of no report, weights far too large.
-            answers.setdefault(bytes(self.tests.came[at:at + size]).ljust(size, b'\x7f'), report)
+            beams, start = bytes(came[at + NUMBERS.size:at + RECORD_SIZE]), at + RECORD_SIZE + 1
+            answer = bytes(came[start:start + size])
+            # What did not come counts as bytes that no test allows: beams of no setting, equal phases of no report,
+            # weights far too large.
+            answers.setdefault((beams.ljust(BEAMS.size, b'\x7f'), answer.ljust(size, b'\x7f')), report)
         return answers
 
     def begin(self, what, s, mode, v):
@@ -543,14 +601,21 @@ class Asked:
     def orthogonality(self, s, mode, v, answers):
         if v > 1:
             self.begin('phases, exactly orthogonal: layers of {}', s, mode, v)
-            for answer, report in answers.items():
+            for (_, answer), report in answers.items():
                 if not all(itertools.starmap(orthogonal, itertools.combinations(layers_in(answer, v), 2))):
                     self.fail(report, 'two layers are not orthogonal')
+
+    def beams(self, s, mode, v, answers):
+        self.begin('phases: the beams of {} that records name', s, mode, v)
+        rows = self.tests.book.first_rows(s, v)
+        for (beams, answer), report in answers.items():
+            if not are_named(rows, pairs_in(beams), answer, v):
+                self.fail(report, 'a layer has not the beam that the record names')
 
     def cross_sums(self, s, mode, v, answers):
         if v > 1:
             self.begin('weights: cross-sums of {}', s, mode, v)
-            for answer, report in answers.items():
+            for (_, answer), report in answers.items():
                 largest = max(itertools.starmap(largest_part, itertools.combinations(layers_in(answer, v), 2)))
                 if largest > PART * s.P:
                     self.fail(report, f'a part is {largest:,}')
@@ -558,7 +623,7 @@ class Asked:
 
     def powers(self, s, mode, v, answers):
         self.begin('weights: powers of {}', s, mode, v)
-        for answer, report in answers.items():
+        for (_, answer), report in answers.items():
             found = powers_of(tuple([layer_of(layer).powers for layer in layers_in(answer, v)]))
             difference = found.highest_port - found.lowest_port
             if not (-PART <= LOWEST <= found.lowest and found.highest <= HIGHEST <= PART):
@@ -577,6 +642,9 @@ class Asked:
         tests.begin('phases: those of all reports are the ones known')
         tests.check(self.reached == known.reached, f'they are {sorted(self.reached)}')
         print(f'phases: reports have {len(self.reached)} of {TURN}; the weights of the others are in no answer')
+        tests.begin('phases: layers whose beams records name')
+        tests.check(self.layers == known.layers, f'{self.layers} layers, known are {known.layers}')
+        print(f'phases: {self.layers} layers, held against the beams that records name')
         print(f'weights: {self.pairs} pairs of layers')
         self.part.figure(tests, 'largest part of a cross-sum', known.part, PART * book.setting_of(self.part.report).P)
         tests.check(self.pairs == known.pairs, f'{self.pairs} pairs of layers, known are {known.pairs}')
@@ -884,7 +952,7 @@ def main(book, held, about, words):
     # Millions of tuples are kept, and none is in a cycle.
     gc.disable()
     tests = Tests(book)
-    for part in (*held, weights_of_phases, count_rule):
+    for part in (*held, weights_of_phases, count_rule, spoiled_beams):
         part(tests)
     every_report(tests, words)
     for function in book.functions:

@@ -14,6 +14,8 @@ product of phi, a_p and b_n, each an exponential, times v_{l,m}. The phase of an
 turns. No phase is computed in whole numbers. The factor 1/sqrt(v) of the whole matrix turns no entry.
 Weights: the same complex entries without their factor, times 16384, each part taken to the nearest whole number, not by
 way of the phase.
+Beams: of the v_{l,m} of each layer, the (l,m) of the mask bit that stands for the same entries. No l or m is reduced by
+arithmetic.
 
 The rules come from 000, an excerpt of TS 38.214 that has all of 5.2.2.2.2. 002 and 003 have it too, with slips; 000
 decides. 01 is the scope, and 02 adds this codebook to it. Which is from where:
@@ -35,7 +37,8 @@ From 003: k1 and k2 of 2 layers (Table 5.2.2.2.1-3), to which 000 refers; 01 has
 From 01, where 000 is silent: the refusals but for what stands below; that an index without use, here i13 with 1 layer,
 has the value 0 alone; records, the bytes of masks, 1/192 turns, weights and buffers, as precoder.py says.
 From 02, where 000 is silent: that i14 and i2 are three numbers each, and those without use are 0; refusal 12, of a number
-of i14, between 8 and 9; that 1 covers Ng, 2 mode 2 with four panels, and 4 a rank above 4.
+of i14, between 8 and 9; that 1 covers Ng, 2 mode 2 with four panels, and 4 a rank above 4; that the record names the beam
+of each layer, which is that of one panel, and that unused places and all those of a refused report have (0,0).
 
 What is sent and what is asked of the answers
 ---------------------------------------------
@@ -52,8 +55,8 @@ import functools
 import math
 import sys
 
-from harness import TURN, Codebook, Known, functions, layers_in, main, near
-from precoder import Beam, bits_of_beam, block, mask_bits, phi, table_3, v_beam
+from harness import TURN, Codebook, Known, functions, layers_in, main, near, pairs_in, places_of
+from precoder import Beam, bits_of_beam, block, mask_bits, pair_of, phases_of_beams, phi, table_3, v_beam
 
 # ---- Settings --------------------------------------------------------------------------------------------------------
 
@@ -156,8 +159,8 @@ COLUMNS = {1: [(1, False)],
 
 Report = collections.namedtuple('Report', 'Ng N1 N2 mode v i11 i12 i13 i141 i142 i143 i20 i21 i22')
 
-# What a report fixes up to i13: the layers, each by p and n, and the bits of the beam mask that are read.
-Columns = collections.namedtuple('Columns', 'layers bits')
+# What a report fixes up to i13: the layers, each by p and n, the bits of the beam mask that are read, and the beams.
+Columns = collections.namedtuple('Columns', 'layers bits beams')
 
 
 @functools.lru_cache(maxsize=None)
@@ -167,7 +170,7 @@ def columns(Ng, N1, N2, mode, v, i11, i12, i13):
     beams = Beam(v_beam, i11, i12), Beam(v_beam, i11 + times_O1 * s.O1, i12 + times_O2 * s.O2)
     layers = [layers_of(s, (first, Ng, mode), beams[primed]) for first, primed in COLUMNS[v]]
     read = {bit for _, primed in COLUMNS[v] for bit in bits_of_beam(s, beams[primed])}
-    return Columns(layers, tuple(sorted(read)))
+    return Columns(layers, tuple(sorted(read)), places_of([pair_of(s, beams[primed]) for _, primed in COLUMNS[v]]))
 
 
 PHASES, WEIGHTS = FUNCTIONS = functions('panel_', 2)
@@ -223,12 +226,13 @@ def of_one_beam(s, mode, v):
 MULTI = Codebook(
     functions=FUNCTIONS, Report=Report, settings=SETTINGS, most_layers=4, modes_of=modes_of, ranks_of=ranks_of,
     refusals={'i11': 6, 'i12': 7, 'i13': 8, 'i141': 12, 'i142': 12, 'i143': 12, 'i20': 9, 'i21': 9, 'i22': 9},
-    values=values, mask_bits=mask_bits, bits_of=lambda report: columns(*report[:8]).bits, answer_of=answer_of,
+    values=values, mask_bits=mask_bits, bits_of=lambda report: columns(*report[:8]).bits,
+    beams_of=lambda report: columns(*report[:8]).beams, first_rows=lambda s, v: phases_of_beams(s), answer_of=answer_of,
     below=(10, 18, 10), extremes=[0, 2, 4, 258, 65537, 2 ** 31, 2 ** 31 + 1, 2 ** 32 - 1], near_misses=near_misses,
     drawn=120_000, draw_numbers=draw_numbers, listed=lambda s, mode, v: REPORTS_IN_RANGE[s[:3]][mode - 1][v - 1],
     among=lambda s, mode, v: min(32, of_one_beam(s, mode, v)),
-    known=Known(reports=570_752, phases=42_340_864, pairs=1_548_352, reached={*range(0, TURN, 6)}, part=194_816,
-                lowest=-11_006, highest=6_213, apart=68_876, apart_at=((2, 4, 1), 4)))
+    known=Known(reports=570_752, phases=42_340_864, layers=1_509_056, pairs=1_548_352, reached={*range(0, TURN, 6)},
+                part=194_816, lowest=-11_006, highest=6_213, apart=68_876, apart_at=((2, 4, 1), 4)))
 
 
 def part_of_range(tests):
@@ -252,6 +256,11 @@ def worked_cases(tests):
         phases = answer_of(PHASES, Report(*setting, mode, v, *[0] * 9)._replace(**indices))
         return [list(layer) for layer in layers_in(phases, v)]
 
+    def beams(setting, mode, v, **indices):
+        """Those of the layers, and what else is not (0,0)."""
+        pairs = pairs_in(MULTI.beams_of(Report(*setting, mode, v, *[0] * 9)._replace(**indices)))
+        return [*pairs[:v], *filter(any, pairs[v:])]
+
     def case(name, *facts):
         tests.begin(f'worked case: {name}, by the model')
         tests.check(all(facts), f'its facts hold: {facts}')
@@ -267,13 +276,19 @@ def worked_cases(tests):
     case('two layers, of beams 7 and 11, which is 3',
          layers((2, 2, 1), 1, 2, **beams_7_and_3)
          == [[0, 168, 48, 24, 144, 120, 0, 168], [0, 72, 144, 24, 144, 24, 96, 168]],
+         beams((2, 2, 1), 1, 2, **beams_7_and_3) == [(7, 0), (3, 0)],
          number((2, 2, 1), 1, 2, b'\x88', **beams_7_and_3) == 0, number((2, 2, 1), 1, 2, b'\xf7', **beams_7_and_3) == 10,
          number((2, 2, 1), 1, 2, b'\x7f', **beams_7_and_3) == 10)
     case('four layers, k = (O1, O2)',
          layers((2, 2, 2), 1, 4, i13=2)
-         == [[0] * 16, [0, 96, 96, 0] * 4, [0, 0, 0, 0, 96, 96, 96, 96] * 2, [0, 96, 96, 0, 96, 0, 0, 96] * 2])
+         == [[0] * 16, [0, 96, 96, 0] * 4, [0, 0, 0, 0, 96, 96, 96, 96] * 2, [0, 96, 96, 0, 96, 0, 0, 96] * 2],
+         beams((2, 2, 2), 1, 4, i13=2) == [(0, 0), (4, 4), (0, 0), (4, 4)])
     case('three layers, k = (0, O2) in row 1',
-         layers((2, 2, 2), 1, 3, i13=1)[1] == [0, 96] * 8, layers((2, 4, 2), 1, 3, i13=1)[1] == [0, 96] * 16)
+         layers((2, 2, 2), 1, 3, i13=1)[1] == [0, 96] * 8, layers((2, 4, 2), 1, 3, i13=1)[1] == [0, 96] * 16,
+         beams((2, 4, 2), 1, 3, i12=6, i13=1) == [(0, 6), (0, 2), (0, 6)])
+    case('beams of one panel', beams((4, 4, 1), 1, 1, i11=15) == [(15, 0)],
+         beams((2, 8, 1), 2, 4, i11=20, i13=3) == [(20, 0), (4, 0), (20, 0), (4, 0)],
+         beams((4, 2, 2), 1, 2, i11=5, i12=3) == [(5, 3), (5, 3)])
     case('settings, modes and ranks', number((1, 2, 1), 1, 1) == 1, number((3, 2, 1), 1, 1) == 1,
          number((4, 8, 1), 1, 1) == 1, number((2, 1, 1), 1, 1) == 1, number((4, 2, 1), 1, 1) == 0,
          number((4, 2, 1), 2, 1) == 2, number((2, 2, 1), 3, 1) == 2, number((2, 2, 1), 1, 4) == 0,

@@ -14,9 +14,11 @@ the phase of an entry is read off its angle in 1/192 turns. No phase is computed
 Weights: the same complex entries without their factor, times 16384, each part taken to the nearest whole number, not by
 way of the phase. No part is near a tie, and for all 192 phases the numbers are those of table.py, in 60 digits. Nothing
 is taken from the library's table.
+Beams: of the v_{l,m} of each column of W, the (l,m) of the mask bit that stands for the same entries; no l or m is reduced
+by arithmetic. Of a v~_{l,m}, (2l,m).
 
 The rules come from 003, an early draft of 5.2.2.2.1; from 000 and 002, later excerpts that begin with Table -10; and
-from 01, the scope. Which is from where:
+from 01, the scope, and 02, what was added to it. Which is from where:
 
 From 003:
   - the settings of four ports and more with their O1 and O2 (Table -2), and P = 2 N1 N2 (the text above it);
@@ -43,6 +45,10 @@ From 01, where the sources are silent:
   - the bytes of a mask: bit k is bit k mod 8 of byte k / 8, and there are exactly as many bytes as the bits fill;
   - phases in 1/192 turns; weights, of radius 16384, x then y; the order of a buffer, layer after layer, how long it
     must be, and that what the answer does not need stays as lent.
+From 02, where the sources are silent:
+  - that the record names the beam of each layer, in the order of the columns, and again one that another layer has;
+  - that a half-length layer, of v~_{l,m}, has (2l,m);
+  - that unused places, all those of a refused report and all those of two ports have (0,0).
 From 01, where the sources are illegible:
   - W of 7 layers: Table -11 has 7 columns above 8 in 003, 8 in 000, 6 and a third row in 002. The first seven
     coefficients of 000's second row are those of 01;
@@ -70,7 +76,7 @@ import itertools
 import math
 import sys
 
-from harness import TURN, Codebook, Known, functions, main, near, read_off
+from harness import TURN, Codebook, Known, functions, main, near, pairs_in, places_of, read_off
 
 # ---- Settings --------------------------------------------------------------------------------------------------------
 
@@ -307,16 +313,45 @@ def bits_of(s, v, i2, rows):
     return tuple(sorted({bit for row in rows for _, beam in row for bit in bits_of_beam(s, beam)}))
 
 
-Precoder = collections.namedtuple('Precoder', 'phases weights bits')
+# ---- The beams that a record names (02) ------------------------------------------------------------------------------
+
+@functools.lru_cache(maxsize=None)
+def pair_of(s, beam):
+    """The (l,m) by which a beam is named: of a v_{l,m} that of its bit, which is reduced."""
+    if beam.vector is one:
+        return 0, 0
+    if beam.vector is v_tilde:
+        return 2 * beam.l, beam.m
+    (bit,) = bits_of_beam(s, beam)
+    return divmod(bit, s.N2 * s.O2)
+
+
+@functools.lru_cache(maxsize=None)
+def phases_of_beams(s):
+    """By (l,m), the phases of v_{l,m}, or of the single entry of two ports."""
+    if s.P == 2:
+        return {(0, 0): b'\0'}
+    return {divmod(bit, s.N2 * s.O2): phases for phases, bit in bit_by_phases(s).items()}
+
+
+@functools.lru_cache(maxsize=None)
+def first_rows(s, v):
+    """By (l,m), the phases with which a layer of that beam begins. v~_{l,m} is the first half of v_{2l,m}."""
+    parts = 2 if v in (3, 4) and s.P >= 16 else 1
+    return {pair: phases[:len(phases) // parts] for pair, phases in phases_of_beams(s).items()}
+
+
+Precoder = collections.namedtuple('Precoder', 'phases weights bits beams')
 
 
 @functools.lru_cache(maxsize=None)
 def precoder(report):
-    """The phases and weights of a report in range, layer after layer, and the mask bits it reads."""
+    """The phases and weights of a report in range, layer after layer, the mask bits it reads and its layers' beams."""
     s, rows = SETTINGS[report.N1, report.N2], matrix(report)
     blocks = [block(s, report.v, coefficient, beam) for column in zip(*rows) for coefficient, beam in column]
     phases, weights = zip(*blocks)
-    return Precoder(b''.join(phases), b''.join(weights), bits_of(s, report.v, report.i2, rows))
+    beams = places_of([pair_of(s, beam) for _, beam in rows[0]])
+    return Precoder(b''.join(phases), b''.join(weights), bits_of(s, report.v, report.i2, rows), beams)
 
 
 # ---- Ranges (headings of Tables 5.2.2.2.1-5 to -12) ------------------------------------------------------------------
@@ -414,11 +449,12 @@ def draw_numbers(draw, s):
 SINGLE = Codebook(
     functions=FUNCTIONS, Report=Report, settings=SETTINGS, most_layers=8, modes_of=lambda s: MODES, ranks_of=ranks_of,
     refusals={'i11': 6, 'i12': 7, 'i13': 8, 'i2': 9}, values=values, mask_bits=mask_bits,
-    bits_of=lambda report: precoder(report).bits, answer_of=answer_of, below=(34, 34),
+    bits_of=lambda report: precoder(report).bits, beams_of=lambda report: precoder(report).beams, first_rows=first_rows,
+    answer_of=answer_of, below=(34, 34),
     extremes=[0, 1, 2, 4, 255, 256, 258, 65535, 65536, 65537, 2 ** 30, 2 ** 31 - 1, 2 ** 31, 2 ** 31 + 1, 2 ** 32 - 2,
               2 ** 32 - 1],
     near_misses=near_misses, draw_numbers=draw_numbers, drawn=240_000, listed=listed, among=lambda s, mode, v: 1,
-    known=Known(reports=78_892, phases=6_387_360, pairs=471_268,
+    known=Known(reports=78_892, phases=6_387_360, layers=266_128, pairs=471_268,
                 reached={e for e in range(TURN) if e % 3 == 0 or e % 4 == 0}, part=207_900, lowest=-17_126,
                 highest=15_121, apart=142_504, apart_at=((4, 3), 8)))
 
@@ -434,6 +470,11 @@ def worked_cases(tests):
         ports = SETTINGS[report[:2]].P
         return list(precoder(Report(*report)).phases[(k - 1) * ports:k * ports])
 
+    def beams(report):
+        """Those of the layers, and what else is not (0,0)."""
+        v, pairs = report[3], pairs_in(precoder(Report(*report)).beams)
+        return [*pairs[:v], *filter(any, pairs[v:])]
+
     def case(k, *facts):
         tests.begin(f'worked case {k}, by the model')
         tests.check(all(facts), f'its facts hold: {facts}')
@@ -443,21 +484,29 @@ def worked_cases(tests):
         return fact(1) and fact(2)
 
     one_layer, two_layers, beam_9 = (2, 1, 1, 1, 1, 0, 0, 1), (2, 1, 1, 2, 7, 0, 1, 0), (2, 1, 2, 1, 3, 0, 0, 15)
-    case(1, number(one_layer) == 0, layer(1, one_layer) == [0, 24, 48, 72])
-    case(2, number(two_layers) == 0,
-         layer(1, two_layers) == [0, 168, 0, 168], layer(2, two_layers) == [0, 72, 96, 168])
-    case(3, number(beam_9) == 0, layer(1, beam_9) == [0, 24, 144, 168], number(beam_9, mask=b'\xfd') == 10)
+    case(1, number(one_layer) == 0, layer(1, one_layer) == [0, 24, 48, 72], beams(one_layer) == [(1, 0)])
+    case(2, number(two_layers) == 0, layer(1, two_layers) == [0, 168, 0, 168],
+         layer(2, two_layers) == [0, 72, 96, 168], beams(two_layers) == [(7, 0), (3, 0)])
+    case(3, number(beam_9) == 0, layer(1, beam_9) == [0, 24, 144, 168], number(beam_9, mask=b'\xfd') == 10,
+         beams(beam_9) == [(1, 0)])
     thirds = layer(1, (3, 2, 1, 3, 0, 0, 3, 0)), layer(2, (3, 2, 1, 3, 0, 0, 3, 0))
     case(4, both(lambda mode: layer(2, (3, 2, mode, 3, 0, 0, 3, 0)) == [0, 0, 128, 128, 64, 64] * 2),
+         both(lambda mode: beams((3, 2, mode, 3, 0, 0, 3, 0)) == [(0, 0), (8, 0), (0, 0)]),
          collections.Counter((y - x) % TURN for x, y in zip(*thirds)) == {0: 4, 64: 4, 128: 4})
     case(5, both(lambda mode: layer(1, (8, 1, mode, 3, 1, 0, 1, 1)) ==
-                 [0, 12, 24, 36, 24, 36, 48, 60, 48, 60, 72, 84, 72, 84, 96, 108]))
+                 [0, 12, 24, 36, 24, 36, 48, 60, 48, 60, 72, 84, 72, 84, 96, 108]),
+         both(lambda mode: beams((8, 1, mode, 3, 1, 0, 1, 1)) == [(2, 0)] * 3))
     case(6, both(lambda mode: layer(1, (1, 1, mode, 2, 0, 0, 0, 1)) == [0, 48]),
          both(lambda mode: layer(2, (1, 1, mode, 2, 0, 0, 0, 1)) == [0, 144]),
+         both(lambda mode: beams((1, 1, mode, 2, 0, 0, 0, 1)) == [(0, 0), (0, 0)]),
          both(lambda mode: number((1, 1, mode, 2, 0, 0, 0, 2)) == 9))
     case(7, both(lambda mode: number((4, 1, mode, 7, 7, 0, 0, 0)) == 0),
+         both(lambda mode: beams((4, 1, mode, 7, 7, 0, 0, 0))
+              == [(7, 0), (7, 0), (11, 0), (15, 0), (15, 0), (3, 0), (3, 0)]),
          both(lambda mode: number((4, 1, mode, 7, 8, 0, 0, 0)) == 6))
     case(8, both(lambda mode: number((3, 2, mode, 8, 0, 3, 0, 0)) == 0),
+         both(lambda mode: beams((3, 2, mode, 8, 0, 3, 0, 0))
+              == [(0, 3), (0, 3), (4, 3), (4, 3), (0, 7), (0, 7), (4, 7), (4, 7)]),
          both(lambda mode: number((3, 2, mode, 8, 0, 4, 0, 0)) == 7))
     case(9, both(lambda mode: number((2, 1, mode, 5, 0, 0, 0, 0)) == 4),
          both(lambda mode: number((2, 1, mode, 1, 0, 1, 0, 0)) == 7),
@@ -465,6 +514,13 @@ def worked_cases(tests):
          both(lambda mode: number((2, 1, mode, 2, 0, 0, 2, 0)) == 8))
     case(10, number(one_layer, length=4) == 0, number(one_layer, length=3) == 11,
          number(one_layer, length=8, function=WEIGHTS) == 0, number(one_layer, length=7, function=WEIGHTS) == 11)
+
+    case('of beams that are reduced', beams((2, 2, 1, 2, 0, 7, 2, 0)) == [(0, 7), (0, 3)],
+         beams((4, 2, 2, 2, 7, 3, 3, 7)) == [(15, 7), (7, 7)], beams((16, 1, 2, 1, 31, 0, 0, 15)) == [(1, 0)],
+         beams((12, 1, 1, 5, 45, 0, 0, 0)) == [(45, 0), (45, 0), (1, 0), (1, 0), (5, 0)],
+         beams((2, 2, 1, 4, 7, 7, 2, 0)) == [(7, 7), (3, 3), (7, 7), (3, 3)])
+    case('of half-length beams', beams((4, 4, 1, 4, 7, 15, 3, 1)) == [(14, 15)] * 4,
+         beams((8, 2, 2, 3, 0, 5, 0, 0)) == [(0, 5)] * 3, beams((8, 1, 1, 2, 3, 0, 0, 0)) == [(3, 0), (3, 0)])
 
     def barring(report):
         """The bits that bar a report when each is the only zero."""

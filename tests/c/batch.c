@@ -6,8 +6,9 @@
 // (16 bits) and its bytes, the length of the buffer in the numbers that the function answers, of 8 bits for phases and of
 // 16 for weights (16 bits), the first fill value (one byte). The lent buffer's byte i is the first fill value plus 37 i,
 // modulo 256.
-// An answer: the record (four numbers of 32 bits: refusal, ports, layers, scale), one byte that is 1 if all guards
-// stand and the beam mask is as lent, else 0, and the buffer's bytes after the call.
+// An answer: the record (twenty numbers of 32 bits: refusal, ports, layers, scale, and l and m of each of the eight
+// beams), one byte that is 1 if all guards stand and the beam mask is as lent, else 0, and the buffer's bytes after the
+// call.
 // After the last answer: how many bytes of stack the deepest call of each function has used (32 bits each; 0 if there was
 // none).
 //
@@ -78,6 +79,17 @@ static void put_number(uint32_t x) {
     put(bytes, 4);
 }
 
+static void put_record(const aspenflick_record *record) {
+    put_number(record->refusal);
+    put_number(record->ports);
+    put_number(record->layers);
+    put_number(record->scale);
+    for (int k = 0; k < ASPENFLICK_MOST_LAYERS; k++) {
+        put_number(record->beams[k].l);
+        put_number(record->beams[k].m);
+    }
+}
+
 // Bytes that are lent, between two guards.
 typedef struct {
     _Alignas(PLACES) uint8_t room[GUARD + PLACES + 2 * MOST + GUARD];
@@ -110,8 +122,8 @@ static int guards_stand(const loan *l) {
     return stand;
 }
 
-static loan beams, buffer;
-static uint8_t beams_as_lent[MOST];
+static loan mask, buffer;
+static uint8_t mask_as_lent[MOST];
 
 int main(void) {
     uint32_t deepest[FUNCTIONS] = {0};
@@ -126,8 +138,8 @@ int main(void) {
         aspenflick_panel_report p = {n[0], n[1], n[2], n[3], n[4], n[5], n[6], n[7],
                                      {n[8], n[9], n[10]}, {n[11], n[12], n[13]}};
         uint8_t ranks = (uint8_t)number(1);
-        lend(&beams, function, count / PLACES, number(2));
-        for (size_t i = 0; i < beams.len; i++) beams.at[i] = beams_as_lent[i] = (uint8_t)number(1);
+        lend(&mask, function, count / PLACES, number(2));
+        for (size_t i = 0; i < mask.len; i++) mask.at[i] = mask_as_lent[i] = (uint8_t)number(1);
         // Numbers of 16 bits start at even addresses only.
         size_t width = of_weights ? sizeof(int16_t) : sizeof(uint8_t), buffer_len = number(2);
         lend(&buffer, function, width * count, width * buffer_len);
@@ -135,23 +147,20 @@ int main(void) {
         for (size_t i = 0; i < buffer.len; i++, fill = (uint8_t)(fill + 37)) buffer.at[i] = fill;
         int16_t *weights = (int16_t *)(void *)buffer.at;
 
-        aspenflick_record record = {0, 0, 0, 0};
+        aspenflick_record record = {0};
         paint();
         switch (function) {
-        case PHASES: record = aspenflick_phases(r, beams.at, beams.len, ranks, buffer.at, buffer_len); break;
-        case WEIGHTS: record = aspenflick_weights(r, beams.at, beams.len, ranks, weights, buffer_len); break;
-        case PANEL_PHASES: record = aspenflick_panel_phases(p, beams.at, beams.len, ranks, buffer.at, buffer_len); break;
-        case PANEL_WEIGHTS: record = aspenflick_panel_weights(p, beams.at, beams.len, ranks, weights, buffer_len); break;
+        case PHASES: record = aspenflick_phases(r, mask.at, mask.len, ranks, buffer.at, buffer_len); break;
+        case WEIGHTS: record = aspenflick_weights(r, mask.at, mask.len, ranks, weights, buffer_len); break;
+        case PANEL_PHASES: record = aspenflick_panel_phases(p, mask.at, mask.len, ranks, buffer.at, buffer_len); break;
+        case PANEL_WEIGHTS: record = aspenflick_panel_weights(p, mask.at, mask.len, ranks, weights, buffer_len); break;
         }
         uint32_t used = stack_used();
         if (used > deepest[function]) deepest[function] = used;
 
-        int intact = guards_stand(&beams) & guards_stand(&buffer);
-        for (size_t i = 0; i < beams.len; i++) intact &= beams.at[i] == beams_as_lent[i];
-        put_number(record.refusal);
-        put_number(record.ports);
-        put_number(record.layers);
-        put_number(record.scale);
+        int intact = guards_stand(&mask) & guards_stand(&buffer);
+        for (size_t i = 0; i < mask.len; i++) intact &= mask.at[i] == mask_as_lent[i];
+        put_record(&record);
         put(&(uint8_t){(uint8_t)intact}, 1);
         put(buffer.at, buffer.len);
     }

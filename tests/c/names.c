@@ -16,7 +16,7 @@ static void check(int holds, const char *what) {
     }
 }
 
-static uint8_t beams[ASPENFLICK_MOST_MASK_BYTES + 1], phases[ASPENFLICK_MOST_PHASES + 1];
+static uint8_t mask[ASPENFLICK_MOST_MASK_BYTES + 1], phases[ASPENFLICK_MOST_PHASES + 1];
 static int16_t weights[ASPENFLICK_MOST_WEIGHTS + 1];
 
 // A report at (4,2) with three layers, where every number has a use, and one change of it for each refusal.
@@ -65,23 +65,23 @@ static const struct {
 };
 
 static void refusals(void) {
-    beams[4 * 8 / 8] &= (uint8_t)~2;  // bars (4,1): 4 rows of 8 bits, and 1, in both masks
+    mask[4 * 8 / 8] &= (uint8_t)~2;  // bars (4,1): 4 rows of 8 bits, and 1, in both masks
     for (size_t k = 0; k < sizeof cases / sizeof cases[0]; k++) {
         aspenflick_report r = cases[k].report;
         size_t bytes = cases[k].bytes, room = cases[k].room;
         uint8_t ranks = cases[k].ranks;
-        check(aspenflick_phases(r, beams, bytes, ranks, phases, room).refusal == cases[k].name, cases[k].what);
-        check(aspenflick_weights(r, beams, bytes, ranks, weights, 2 * room).refusal == cases[k].name, cases[k].what);
+        check(aspenflick_phases(r, mask, bytes, ranks, phases, room).refusal == cases[k].name, cases[k].what);
+        check(aspenflick_weights(r, mask, bytes, ranks, weights, 2 * room).refusal == cases[k].name, cases[k].what);
     }
     for (size_t k = 0; k < sizeof panel_cases / sizeof panel_cases[0]; k++) {
         aspenflick_panel_report r = panel_cases[k].report;
         size_t bytes = panel_cases[k].bytes, room = panel_cases[k].room;
         uint8_t ranks = panel_cases[k].ranks;
         const uint32_t name = panel_cases[k].name;
-        check(aspenflick_panel_phases(r, beams, bytes, ranks, phases, room).refusal == name, panel_cases[k].what);
-        check(aspenflick_panel_weights(r, beams, bytes, ranks, weights, 2 * room).refusal == name, panel_cases[k].what);
+        check(aspenflick_panel_phases(r, mask, bytes, ranks, phases, room).refusal == name, panel_cases[k].what);
+        check(aspenflick_panel_weights(r, mask, bytes, ranks, weights, 2 * room).refusal == name, panel_cases[k].what);
     }
-    beams[4 * 8 / 8] = 255;
+    mask[4 * 8 / 8] = 255;
 }
 
 // A log that has each kind of step and each fault, and where.
@@ -119,11 +119,11 @@ static void sizes(void) {
             if (needed > bytes) bytes = needed;
             for (uint32_t v = 1; v <= 40; v++) {
                 aspenflick_report r = {.n1 = n1, .n2 = n2, .mode = 1, .v = v};
-                aspenflick_record a = aspenflick_phases(r, beams, needed, 255, phases, ASPENFLICK_MOST_PHASES);
+                aspenflick_record a = aspenflick_phases(r, mask, needed, 255, phases, ASPENFLICK_MOST_PHASES);
                 if (a.refusal) continue;
-                check(aspenflick_phases(r, beams, needed - 1, 255, phases, ASPENFLICK_MOST_PHASES).refusal ==
+                check(aspenflick_phases(r, mask, needed - 1, 255, phases, ASPENFLICK_MOST_PHASES).refusal ==
                       ASPENFLICK_MASK_LENGTH, "a mask of a byte less");
-                check(aspenflick_weights(r, beams, needed, 255, weights, ASPENFLICK_MOST_WEIGHTS).refusal ==
+                check(aspenflick_weights(r, mask, needed, 255, weights, ASPENFLICK_MOST_WEIGHTS).refusal ==
                       ASPENFLICK_ACCEPTED, "room for weights");
                 if (a.ports > ports) ports = a.ports;
                 if (a.layers > layers) layers = a.layers;
@@ -134,13 +134,14 @@ static void sizes(void) {
     check(settings == 14, "fourteen settings");
     check(ports == ASPENFLICK_MOST_PORTS, "MOST_PORTS");
     check(layers == ASPENFLICK_MOST_LAYERS, "MOST_LAYERS");
+    check(layers == sizeof ((aspenflick_record *)0)->beams / sizeof(aspenflick_beam), "a beam for each of the most layers");
     check(entries == ASPENFLICK_MOST_PHASES, "MOST_PHASES");
     check(2 * entries == ASPENFLICK_MOST_WEIGHTS, "MOST_WEIGHTS");
     check(bytes == ASPENFLICK_MOST_MASK_BYTES, "MOST_MASK_BYTES");
 }
 
 int main(void) {
-    for (size_t k = 0; k < sizeof beams; k++) beams[k] = 255;
+    for (size_t k = 0; k < sizeof mask; k++) mask[k] = 255;
     check(aspenflick_version() == ASPENFLICK_VERSION, "the version of the header and the library");
     refusals();
     log_steps();

@@ -43,7 +43,7 @@ static uint32_t below(uint32_t bound) { return (uint32_t)((draw() >> 32) * bound
 typedef struct {
     aspenflick_panel_report report;
     uint8_t ranks;
-    size_t beams_len, out_len;
+    size_t mask_len, out_len;
 } request;
 
 // Those of the single panel, and then those of several.
@@ -120,8 +120,8 @@ static request any_request(int function) {
     case 2: q.ranks = (uint8_t)(1 << (v - 1)); break;
     case 3: q.ranks = below(8) ? 255 : (uint8_t)~(1 << (v - 1)); break;
     }
-    uint32_t beam_bits = ports > 2 ? 4 * n1 * (n2 > 1 ? 4 * n2 : 1) : 8;
-    q.beams_len = vary_length(beam_bits / 8, chances);
+    uint32_t mask_bits = ports > 2 ? 4 * n1 * (n2 > 1 ? 4 * n2 : 1) : 8;
+    q.mask_len = vary_length(mask_bits / 8, chances);
     q.out_len = vary_length(v * ports * (functions[function].weights ? 2 : 1), 32);
     return q;
 }
@@ -157,109 +157,129 @@ static void fill(loan *l, extent e, int function) {
 }
 
 // Mostly all bits are ones, or nearly all; the rest is as drawn.
-static void make_beams(uint8_t *beams, size_t len) {
+static void make_mask(uint8_t *bits, size_t len) {
     uint32_t kind = below(8), zeros = 1 + below(3);
     for (size_t i = 0; i < len; i++) {
-        if (kind > 1) beams[i] = 255;
-        if (kind == 1) beams[i] = (uint8_t)(beams[i] | draw() | draw() >> 8);
+        if (kind > 1) bits[i] = 255;
+        if (kind == 1) bits[i] = (uint8_t)(bits[i] | draw() | draw() >> 8);
     }
     if (len && (kind == 2 || kind == 3)) {
-        for (uint32_t k = 0; k < zeros; k++) beams[below((uint32_t)len)] &= (uint8_t)~(1 << below(8));
+        for (uint32_t k = 0; k < zeros; k++) bits[below((uint32_t)len)] &= (uint8_t)~(1 << below(8));
     }
 }
 
 // The checks, each counted for itself.
 enum {
-    KNOWN, ZEROS, AS_LENT, RECORD, LEGAL, BEHIND, REPEATED, OUT_GUARDS, BEAMS_GUARDS, BEAMS, BASELINE_RECORD, BASELINE_OUT,
-    CHECKS
+    KNOWN, ZEROS, NO_BEAM, AS_LENT, RECORD, BEAMS_BEHIND, IN_RANGE, NOT_BARRED, LEGAL, BEHIND, REPEATED, OUT_GUARDS,
+    MASK_GUARDS, MASK, BASELINE_RECORD, BASELINE_OUT, CHECKS
 };
 static const char *const check_names[CHECKS] = {
     [KNOWN] = "the refusal is 0 or one of the codebook's",
     [ZEROS] = "refused: ports, layers and scale are 0",
+    [NO_BEAM] = "refused: every beam is (0,0)",
     [AS_LENT] = "refused: the buffer is as lent",
     [RECORD] = "accepted: the record is 0, P, v, v*P",
+    [BEAMS_BEHIND] = "accepted: behind the layers' beams all are (0,0)",
+    [IN_RANGE] = "accepted: the beam of every layer is one of the setting",
+    [NOT_BARRED] = "accepted: the bit of every layer's beam is one",
     [LEGAL] = "accepted: every entry is a phase, or a weight of due power",
     [BEHIND] = "accepted: what is behind the answer is as lent",
     [REPEATED] = "another fill changes nothing in record and answer",
     [OUT_GUARDS] = "the buffer's guards stand",
-    [BEAMS_GUARDS] = "the mask's guards stand",
-    [BEAMS] = "the mask is as lent",
+    [MASK_GUARDS] = "the mask's guards stand",
+    [MASK] = "the mask is as lent",
     [BASELINE_RECORD] = "the record is that of the version by hand",
     [BASELINE_OUT] = "the buffer is that of the version by hand",
 };
 
-// Faults, seeded into some calls, each with the check that has to see it; MIDDLE_ALONE is for the single panel alone, and
-// the last two are for several panels.
+// Faults, seeded into some calls, each with the check that has to see it; MIDDLE_ALONE and NOT_DOUBLED are for the single
+// panel alone, and the last two are for several panels.
 enum {
-    NONE, UNKNOWN_REFUSAL, PORTS_ON_REFUSAL, BYTE_ON_REFUSAL, WRONG_SCALE, NO_ENTRY, PAST_ANSWER, NOT_WRITTEN, BEFORE_OUT,
-    BEHIND_OUT, BEFORE_BEAMS, BEHIND_BEAMS, BEAMS_BYTE, OTHER_ORDER, OTHER_ENTRY, MIDDLE_ALONE, OTHER_PANEL_ORDER,
-    OTHER_PANEL, FAULTS
+    NONE, UNKNOWN_REFUSAL, PORTS_ON_REFUSAL, BEAM_ON_REFUSAL, BYTE_ON_REFUSAL, WRONG_SCALE, BEAM_TOO_MANY, NOT_REDUCED,
+    NEXT_BEAM, NO_ENTRY, PAST_ANSWER, NOT_WRITTEN, BEFORE_OUT, BEHIND_OUT, BEFORE_MASK, BEHIND_MASK, MASK_BYTE,
+    OTHER_ORDER, LEFT_OUT, FIRST_BEAM, OTHER_ENTRY, MIDDLE_ALONE, NOT_DOUBLED, OTHER_PANEL_ORDER, OTHER_PANEL, FAULTS
 };
 static const struct { const char *name; int seen_by; } faults[FAULTS] = {
     [UNKNOWN_REFUSAL] = {"one above all refusals for 11", KNOWN},
     [PORTS_ON_REFUSAL] = {"ports given on a refusal", ZEROS},
+    [BEAM_ON_REFUSAL] = {"the first layer's beam left on a refusal", NO_BEAM},
     [BYTE_ON_REFUSAL] = {"a byte of the buffer changed on a refusal", AS_LENT},
     [WRONG_SCALE] = {"the scale less by P", RECORD},
+    [BEAM_TOO_MANY] = {"the first layer's beam again behind the last", BEAMS_BEHIND},
+    [NOT_REDUCED] = {"a beam's l not reduced", IN_RANGE},
+    [NEXT_BEAM] = {"a beam's l more by one", NOT_BARRED},
     [NO_ENTRY] = {"an entry with all bits ones", LEGAL},
     [PAST_ANSWER] = {"the byte behind the answer changed", BEHIND},
     [NOT_WRITTEN] = {"an entry not written", REPEATED},
     [BEFORE_OUT] = {"the byte before the buffer changed", OUT_GUARDS},
     [BEHIND_OUT] = {"the byte behind the buffer changed", OUT_GUARDS},
-    [BEFORE_BEAMS] = {"the byte before the mask changed", BEAMS_GUARDS},
-    [BEHIND_BEAMS] = {"the byte behind the mask changed", BEAMS_GUARDS},
-    [BEAMS_BYTE] = {"a byte of the mask changed", BEAMS},
+    [BEFORE_MASK] = {"the byte before the mask changed", MASK_GUARDS},
+    [BEHIND_MASK] = {"the byte behind the mask changed", MASK_GUARDS},
+    [MASK_BYTE] = {"a byte of the mask changed", MASK},
     [OTHER_ORDER] = {"11 before 10", BASELINE_RECORD},
+    [LEFT_OUT] = {"the second layer's beam left out", BASELINE_RECORD},
+    [FIRST_BEAM] = {"the first layer's beam for the second", BASELINE_RECORD},
     [OTHER_ENTRY] = {"the first entry in place of another", BASELINE_OUT},
     [MIDDLE_ALONE] = {"of a half-length beam the middle bit alone", BASELINE_RECORD},
+    [NOT_DOUBLED] = {"i11 for 2*i11 of a half-length beam", BASELINE_RECORD},
     [OTHER_PANEL_ORDER] = {"9 before 12", BASELINE_RECORD},
     [OTHER_PANEL] = {"the first panel in place of the last", BASELINE_OUT},
 };
 enum { FAULTY = 20000 };
 
-static loan beams, beams_lent, out, out_lent, out_again, out_again_lent, out_baseline;
+static loan mask, mask_lent, out, out_lent, out_again, out_again_lent, out_baseline;
 static unsigned long long outcomes[FUNCTIONS][REFUSALS + 1], failures[FUNCTIONS][CHECKS];
 
 static uint32_t ports_of(const request *q) { return 2 * q->report.ng * q->report.n1 * q->report.n2; }
 
+// How many l and how many m the beams of a setting have; two ports have (0,0) alone.
+static uint32_t across(const request *q) { return q->report.n1 > 1 ? 4 * q->report.n1 : 1; }
+static uint32_t down(const request *q) { return q->report.n2 > 1 ? 4 * q->report.n2 : 1; }
+
 // A call of the library, or of the version by hand.
 #define CALL(name, prefix)                                                                                            \
-    static aspenflick_record name(int function, const request *q, const uint8_t *mask, uint8_t *bytes) {              \
+    static aspenflick_record name(int function, const request *q, const uint8_t *bits, uint8_t *bytes) {              \
         const aspenflick_panel_report r = q->report;                                                                  \
         const aspenflick_report single = {r.n1, r.n2, r.mode, r.v, r.i11, r.i12, r.i13, r.i2[0]};                     \
         int16_t *numbers = (int16_t *)(void *)bytes;                                                                  \
         switch (function) {                                                                                           \
-        case PHASES: return prefix##_phases(single, mask, q->beams_len, q->ranks, bytes, q->out_len);                 \
-        case WEIGHTS: return prefix##_weights(single, mask, q->beams_len, q->ranks, numbers, q->out_len);             \
-        case PANEL_PHASES: return prefix##_panel_phases(r, mask, q->beams_len, q->ranks, bytes, q->out_len);          \
-        default: return prefix##_panel_weights(r, mask, q->beams_len, q->ranks, numbers, q->out_len);                 \
+        case PHASES: return prefix##_phases(single, bits, q->mask_len, q->ranks, bytes, q->out_len);                  \
+        case WEIGHTS: return prefix##_weights(single, bits, q->mask_len, q->ranks, numbers, q->out_len);              \
+        case PANEL_PHASES: return prefix##_panel_phases(r, bits, q->mask_len, q->ranks, bytes, q->out_len);           \
+        default: return prefix##_panel_weights(r, bits, q->mask_len, q->ranks, numbers, q->out_len);                  \
         }                                                                                                             \
     }
 CALL(call, aspenflick)
 CALL(call_baseline, baseline)
 
-// Whether the middle one of a half-length beam's three bits is one, of a single-panel report whose numbers are in range.
-static int middle_is_one(const request *q, const uint8_t *mask) {
-    const aspenflick_panel_report *r = &q->report;
-    uint32_t down = r->n2 > 1 ? 4 * r->n2 : 1, k = down * 2 * r->i11 + r->i12;
-    return ports_of(q) >= 16 && (r->v == 3 || r->v == 4) && mask[k / 8] >> k % 8 & 1;
+// Whether a beam is not barred. Two ports have bits for i2 and none for beams.
+static int is_one(const request *q, const uint8_t *bits, aspenflick_beam b) {
+    uint32_t k = b.l * down(q) + b.m;
+    return ports_of(q) == 2 || (k / 8 < q->mask_len && bits[k / 8] >> k % 8 & 1);
 }
 
-// Spoils what a call has given, as a library with that fault would: twice alike. `choice` picks the byte or the entry.
-static aspenflick_record spoil(int fault, uint32_t choice, int function, const request *q, uint8_t *mask, uint8_t *bytes,
+// Of a single-panel report.
+static int half_length(const request *q) { return ports_of(q) >= 16 && (q->report.v == 3 || q->report.v == 4); }
+static aspenflick_beam half_length_beam(const request *q) { return (aspenflick_beam){2 * q->report.i11, q->report.i12}; }
+
+// Spoils what a call has given, as a library with that fault would: twice alike. `choice` picks the byte, the entry or the
+// layer.
+static aspenflick_record spoil(int fault, uint32_t choice, int function, const request *q, uint8_t *bits, uint8_t *bytes,
                                const uint8_t *bytes_lent, aspenflick_record record) {
     int weights = functions[function].weights;
     size_t entry = weights ? 2 * sizeof(int16_t) : sizeof(uint8_t), scale = record.scale;
-    size_t len = weights ? sizeof(int16_t) * q->out_len : q->out_len, beams_len = q->beams_len;
-    const uint8_t *mask_lent = beams_lent.room + (mask - beams.room);
+    size_t len = weights ? sizeof(int16_t) * q->out_len : q->out_len, mask_len = q->mask_len;
+    const uint8_t *bits_lent = mask_lent.room + (bits - mask.room);
     if (record.refusal) {
         size_t needed = entry * ports_of(q) * q->report.v;
         int bad_i2 = q->report.i2[0] > 3 || q->report.i2[1] > 1 || q->report.i2[2] > 1;
         if (fault == UNKNOWN_REFUSAL && record.refusal == 11) record.refusal = functions[function].refusals + 1;
         if (fault == PORTS_ON_REFUSAL) record.ports = 4;
+        if (fault == BEAM_ON_REFUSAL) record.beams[0] = (aspenflick_beam){q->report.i11, q->report.i12};
         if (fault == BYTE_ON_REFUSAL && len) bytes[choice % len] ^= 1;
         if (fault == OTHER_ORDER && record.refusal == 10 && len < needed) record.refusal = 11;
         if (fault == OTHER_PANEL_ORDER && record.refusal == 12 && bad_i2) record.refusal = 9;
-        if (fault == MIDDLE_ALONE && record.refusal == 10 && middle_is_one(q, mask)) {
+        if (fault == MIDDLE_ALONE && record.refusal == 10 && half_length(q) && is_one(q, bits, half_length_beam(q))) {
             static const uint8_t ones[] = {
                 255, 255, 255, 255, 255, 255, 255, 255, 255, 255, 255, 255, 255, 255, 255, 255,
                 255, 255, 255, 255, 255, 255, 255, 255, 255, 255, 255, 255, 255, 255, 255, 255,
@@ -268,7 +288,14 @@ static aspenflick_record spoil(int fault, uint32_t choice, int function, const r
         }
     } else {
         uint8_t *some = bytes + choice % scale * entry;
+        aspenflick_beam *beams = record.beams, *one = beams + choice % record.layers;
         if (fault == WRONG_SCALE) record.scale -= record.ports;
+        if (fault == BEAM_TOO_MANY && record.layers < ASPENFLICK_MOST_LAYERS) beams[record.layers] = beams[0];
+        if (fault == NOT_REDUCED && one->l < q->report.i11) one->l += across(q);
+        if (fault == NEXT_BEAM) one->l = (one->l + 1) % across(q);
+        if (fault == LEFT_OUT) beams[1] = (aspenflick_beam){0, 0};
+        if (fault == FIRST_BEAM && record.layers > 1) beams[1] = beams[0];
+        if (fault == NOT_DOUBLED && half_length(q)) one->l = q->report.i11;
         if (fault == NO_ENTRY) for (size_t i = 0; i < entry; i++) some[i] = 255;
         if (fault == PAST_ANSWER && scale * entry < len) bytes[scale * entry] ^= 1;
         if (fault == NOT_WRITTEN) memcpy(some, bytes_lent + (some - bytes), entry);
@@ -280,14 +307,36 @@ static aspenflick_record spoil(int fault, uint32_t choice, int function, const r
     }
     if (fault == BEFORE_OUT) bytes[-1] ^= 1;
     if (fault == BEHIND_OUT) bytes[len] ^= 1;
-    if (fault == BEFORE_BEAMS) mask[-1] = mask_lent[-1] ^ 1;
-    if (fault == BEHIND_BEAMS) mask[beams_len] = mask_lent[beams_len] ^ 1;
-    if (fault == BEAMS_BYTE && beams_len) mask[choice % beams_len] = mask_lent[choice % beams_len] ^ 1;
+    if (fault == BEFORE_MASK) bits[-1] = bits_lent[-1] ^ 1;
+    if (fault == BEHIND_MASK) bits[mask_len] = bits_lent[mask_len] ^ 1;
+    if (fault == MASK_BYTE && mask_len) bits[choice % mask_len] = bits_lent[choice % mask_len] ^ 1;
     return record;
 }
 
-static int same_record(aspenflick_record a, aspenflick_record b) {
-    return a.refusal == b.refusal && a.ports == b.ports && a.layers == b.layers && a.scale == b.scale;
+static int same_record(const aspenflick_record *a, const aspenflick_record *b) { return !memcmp(a, b, sizeof *a); }
+
+// Whether all beams from a place on are (0,0).
+static int none_from(const aspenflick_record *record, size_t place) {
+    uint32_t any = 0;
+    for (size_t j = place; j < ASPENFLICK_MOST_LAYERS; j++) any |= record->beams[j].l | record->beams[j].m;
+    return !any;
+}
+
+// The layers asked for, as far as a record has places.
+static size_t named_layers(const request *q) {
+    return q->report.v < ASPENFLICK_MOST_LAYERS ? q->report.v : ASPENFLICK_MOST_LAYERS;
+}
+
+static int all_in_range(const request *q, const aspenflick_record *record) {
+    int good = 1;
+    for (size_t j = 0; j < named_layers(q); j++) good &= record->beams[j].l < across(q) && record->beams[j].m < down(q);
+    return good;
+}
+
+static int all_ones(const request *q, const uint8_t *bits, const aspenflick_record *record) {
+    int good = 1;
+    for (size_t j = 0; j < named_layers(q); j++) good &= is_one(q, bits, record->beams[j]);
+    return good;
 }
 
 // Whether every entry of an answer of so many bytes is a phase, or a weight whose power is near the square of 16384.
@@ -307,16 +356,21 @@ static int legal(int function, const uint8_t *bytes, size_t len) {
     return good;
 }
 
+static void print_record(const aspenflick_record *record) {
+    printf(" %u %u %u %u", record->refusal, record->ports, record->layers, record->scale);
+    for (size_t j = 0; j < ASPENFLICK_MOST_LAYERS; j++) printf(" (%u,%u)", record->beams[j].l, record->beams[j].m);
+}
+
 // One request: two calls and one of the version by hand. The fault is seeded into a quarter of them; then failures
 // are counted, but not printed.
 static void ask(int function, uint64_t number, int fault) {
     request q = any_request(function);
     int weights = functions[function].weights;
     size_t width = weights ? sizeof(int16_t) : sizeof(uint8_t);
-    extent b = {below(PLACES), q.beams_len}, o = {width * below((uint32_t)(PLACES / width)), width * q.out_len};
-    fill(&beams_lent, b, function);
-    make_beams(inner(&beams_lent, b), b.len);
-    copy(&beams, &beams_lent, b);
+    extent m = {below(PLACES), q.mask_len}, o = {width * below((uint32_t)(PLACES / width)), width * q.out_len};
+    fill(&mask_lent, m, function);
+    make_mask(inner(&mask_lent, m), m.len);
+    copy(&mask, &mask_lent, m);
     fill(&out_lent, o, function);
     copy(&out, &out_lent, o);
     copy(&out_baseline, &out_lent, o);
@@ -325,14 +379,15 @@ static void ask(int function, uint64_t number, int fault) {
     for (size_t i = 0; i < o.len; i++) inner(&out_again_lent, o)[i] ^= 255;
     copy(&out_again, &out_again_lent, o);
 
-    uint8_t *mask = inner(&beams, b), *bytes = inner(&out, o), *bytes_again = inner(&out_again, o);
+    uint8_t *bits = inner(&mask, m), *bytes = inner(&out, o), *bytes_again = inner(&out_again, o);
+    const uint8_t *bits_lent = inner(&mask_lent, m);
     const uint8_t *bytes_lent = inner(&out_lent, o), *bytes_again_lent = inner(&out_again_lent, o);
-    aspenflick_record record = call(function, &q, mask, bytes), again = call(function, &q, mask, bytes_again);
-    aspenflick_record baseline = call_baseline(function, &q, inner(&beams_lent, b), inner(&out_baseline, o));
+    aspenflick_record record = call(function, &q, bits, bytes), again = call(function, &q, bits, bytes_again);
+    aspenflick_record baseline = call_baseline(function, &q, bits_lent, inner(&out_baseline, o));
     if (fault && below(4) == 0) {
         uint32_t choice = (uint32_t)draw();
-        record = spoil(fault, choice, function, &q, mask, bytes, bytes_lent, record);
-        again = spoil(fault, choice, function, &q, mask, bytes_again, bytes_again_lent, again);
+        record = spoil(fault, choice, function, &q, bits, bytes, bytes_lent, record);
+        again = spoil(fault, choice, function, &q, bits, bytes_again, bytes_again_lent, again);
     }
 
     uint32_t ports = ports_of(&q), scale = q.report.v * ports;
@@ -344,16 +399,20 @@ static void ask(int function, uint64_t number, int fault) {
     const int holds[CHECKS] = {
         [KNOWN] = record.refusal <= functions[function].refusals,
         [ZEROS] = !refused || !(record.ports | record.layers | record.scale),
+        [NO_BEAM] = !refused || none_from(&record, 0),
         [AS_LENT] = !refused || !memcmp(bytes, bytes_lent, o.len),
         [RECORD] = refused || (record.ports == ports && record.layers == q.report.v && record.scale == scale),
+        [BEAMS_BEHIND] = refused || none_from(&record, q.report.v),
+        [IN_RANGE] = refused || all_in_range(&q, &record),
+        [NOT_BARRED] = refused || all_ones(&q, bits_lent, &record),
         [LEGAL] = refused || legal(function, bytes, answer),
         [BEHIND] = refused || !memcmp(bytes + answer, bytes_lent + answer, rest),
-        [REPEATED] = same_record(record, again) && !memcmp(bytes, bytes_again, answer) &&
+        [REPEATED] = same_record(&record, &again) && !memcmp(bytes, bytes_again, answer) &&
                      !memcmp(bytes_again + answer, bytes_again_lent + answer, rest),
         [OUT_GUARDS] = same_guards(&out, &out_lent, o) && same_guards(&out_again, &out_lent, o),
-        [BEAMS_GUARDS] = same_guards(&beams, &beams_lent, b),
-        [BEAMS] = !memcmp(mask, inner(&beams_lent, b), b.len),
-        [BASELINE_RECORD] = same_record(record, baseline),
+        [MASK_GUARDS] = same_guards(&mask, &mask_lent, m),
+        [MASK] = !memcmp(bits, bits_lent, m.len),
+        [BASELINE_RECORD] = same_record(&record, &baseline),
         [BASELINE_OUT] = !memcmp(bytes, inner(&out_baseline, o), o.len),
     };
     if (record.refusal <= REFUSALS) outcomes[function][record.refusal]++;
@@ -361,16 +420,21 @@ static void ask(int function, uint64_t number, int fault) {
         if (holds[check] || failures[function][check]++ || fault) continue;
         const aspenflick_panel_report r = q.report;
         printf("%s: request %llu fails `%s`: Ng=%u N1=%u N2=%u mode=%u v=%u i11=%u i12=%u i13=%u i14=%u,%u,%u "
-               "i2=%u,%u,%u ranks=%u, %zu bytes of mask, room for %zu: %u %u %u %u, the version by hand %u %u %u %u\n",
+               "i2=%u,%u,%u ranks=%u, %zu bytes of mask, room for %zu:",
                functions[function].name, (unsigned long long)number, check_names[check], r.ng, r.n1, r.n2, r.mode, r.v,
-               r.i11, r.i12, r.i13, r.i14[0], r.i14[1], r.i14[2], r.i2[0], r.i2[1], r.i2[2], q.ranks, q.beams_len,
-               q.out_len, record.refusal, record.ports, record.layers, record.scale, baseline.refusal, baseline.ports,
-               baseline.layers, baseline.scale);
+               r.i11, r.i12, r.i13, r.i14[0], r.i14[1], r.i14[2], r.i2[0], r.i2[1], r.i2[2], q.ranks, q.mask_len,
+               q.out_len);
+        print_record(&record);
+        printf(", the version by hand");
+        print_record(&baseline);
+        printf("\n");
     }
 }
 
 static int first_function(int fault) { return fault < OTHER_PANEL_ORDER ? PHASES : PANEL_PHASES; }
-static int past_function(int fault) { return fault == MIDDLE_ALONE ? PANEL_PHASES : FUNCTIONS; }
+static int past_function(int fault) {
+    return fault == MIDDLE_ALONE || fault == NOT_DOUBLED ? PANEL_PHASES : FUNCTIONS;
+}
 
 // Of several panels, whose calls take longer, half as many.
 static uint64_t requests(int function, uint64_t count) { return function < PANEL_PHASES ? count : count / 2; }

@@ -4,13 +4,13 @@ use mathlib.Core.Path.{_∙_, sym}
 use denote.Ref.{now}
 use Rattle.ground.specs.Unique.{Unique, UniqueLeft}
 use Rattle.plan.proofs.Answers.{one-answer}
-use Rattle.aspenflick.proofs.aspenflick_version_1.Reads as version
-use Rattle.aspenflick.proofs.aspenflick_mask_bytes_1.Reads as mask-bytes
-use Rattle.aspenflick.proofs.aspenflick_phases_1.Reads as phases
-use Rattle.aspenflick.proofs.aspenflick_weights_1.Reads as weights
-use Rattle.aspenflick.proofs.aspenflick_panel_phases_1.Reads as panel-phases
-use Rattle.aspenflick.proofs.aspenflick_panel_weights_1.Reads as panel-weights
-use Rattle.aspenflick.proofs.aspenflick_log_next_1.Reads as log-next
+use Rattle.aspenflick.proofs.aspenflick_version_2.Reads as version
+use Rattle.aspenflick.proofs.aspenflick_mask_bytes_2.Reads as mask-bytes
+use Rattle.aspenflick.proofs.aspenflick_phases_2.Reads as phases
+use Rattle.aspenflick.proofs.aspenflick_weights_2.Reads as weights
+use Rattle.aspenflick.proofs.aspenflick_panel_phases_2.Reads as panel-phases
+use Rattle.aspenflick.proofs.aspenflick_panel_weights_2.Reads as panel-weights
+use Rattle.aspenflick.proofs.aspenflick_log_next_2.Reads as log-next
 
 pub aspenflick-version-unique : Unique version.Learnt
 aspenflick-version-unique k a r r′ e e′ p q = p ∙ sym q

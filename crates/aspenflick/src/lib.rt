@@ -4,7 +4,7 @@
 // A call answers any numbers, masks and lengths. It allocates nothing, takes less than 2,048 bytes of stack (measured,
 // not proved) and keeps no state, so several threads may call at once, each with an `out` of its own. A struct goes by
 // value. A slice is a pointer to entries and then their number: the pointer must not be null and must be aligned for
-// them, also where there are none, and `out` must not overlap `beams`. Nothing else of the caller's is read or written.
+// them, also where there are none, and `out` must not overlap `mask`. Nothing else of the caller's is read or written.
 // The answer to a report is determined by the report, both masks, the length of `out`, which function is called, and the
 // version of the library: whoever files answers keeps these.
 //
@@ -43,11 +43,16 @@
 //     i14: 4 1 1 with two panels in mode 1, 4 4 1 with two panels in mode 2, 4 4 4 with four panels
 //
 // Bit k of a mask is bit k mod 8, from the lowest, of byte k / 8. A zero bit bars. `ranks` has bit v-1 for v layers.
-// `beams` has 4·n1·M bits, bit l·M + m for the beam (l,m), l modulo 4·n1 and m modulo M; for several panels it is the mask
+// `mask` has 4·n1·M bits, bit l·M + m for the beam (l,m), l modulo 4·n1 and m modulo M; for several panels it is the mask
 // of one of them. Two ports have one byte: bits 0 to 3 for i2 with one layer, bits 4 and 5 for i2 with two. Three and four
 // layers of one panel with 16 ports or more have half-length beams, for which three bits are read, those of
 // (2·i11 - 1, i12), (2·i11, i12) and (2·i11 + 1, i12); at i11 = 0 the first is that of (4·n1 - 1, i12). One zero among them
 // bars the report. Several panels have no half-length beams.
+//
+// The record of an accepted report names the beam of each layer, with l below 4·n1 and m below M: its bit of `mask` is one.
+// Layers that have one beam repeat it; a half-length beam is named (2·i11, i12), the middle one of its three; in a layer of
+// several panels, which all have one beam, that is named once. Places from v on are (0,0), which is a beam too: they say
+// nothing. Two ports have no beams, and all places are (0,0).
 ghost use mathlib.Core.Path.{_≡_};
 ghost use Rattle.ground.specs.Cases.{_⇒_∣_};
 ghost use Rattle.settings.specs.Settings.{isSetting, maskBytes};
@@ -59,13 +64,13 @@ ghost use Rattle.aspenflick.specs.Version.{version};
 
 // The version of the library. A struct, a parameter or a constant that changes makes the first number another, and every
 // function is linked by a name that ends with it: a program compiled with a header of another major number does not link.
-pub const VERSION_MAJOR: u32 = 1;
+pub const VERSION_MAJOR: u32 = 2;
 
-pub const VERSION_MINOR: u32 = 3;
+pub const VERSION_MINOR: u32 = 0;
 
 pub const VERSION_PATCH: u32 = 0;
 
-// The largest sizes: ports, layers, numbers in `out` for phases and for weights, bytes of `beams`.
+// The largest sizes: ports, layers, numbers in `out` for phases and for weights, bytes of `mask`.
 pub const MOST_PORTS: u32 = 32;
 
 pub const MOST_LAYERS: u32 = 8;
@@ -76,8 +81,8 @@ pub const MOST_WEIGHTS: u32 = 512;
 
 pub const MOST_MASK_BYTES: u32 = 32;
 
-// The refusals, in the order in which they are tried. The first that applies is given; the record's other numbers are then
-// 0 and `out` stays as lent.
+// The refusals, in the order in which they are tried. The first that applies is given; the record's other numbers, those
+// of its beams among them, are then 0 and `out` stays as lent.
 // none applies
 pub const ACCEPTED: u32 = 0;
 
@@ -87,7 +92,7 @@ pub const NO_SETTING: u32 = 1;
 // mode is neither 1 nor 2, or is 2 with four panels
 pub const NO_MODE: u32 = 2;
 
-// `beams` has not exactly the bytes needed
+// `mask` has not exactly the bytes needed
 pub const MASK_LENGTH: u32 = 3;
 
 // v is 0, above 8 or above P; for panels, above 4
@@ -111,7 +116,7 @@ pub const I14_RANGE: u32 = 12;
 // i2, or a number of it, is out of range
 pub const I2_RANGE: u32 = 9;
 
-// a bit of `beams` that the report reads is zero
+// a bit of `mask` that the report reads is zero
 pub const BEAM_BARRED: u32 = 10;
 
 // `out` is too short: v·P bytes are needed, or 2·v·P numbers for weights
@@ -139,7 +144,7 @@ pub const FAULT_LARGE: u32 = 3;
 
 // The version of the library that is linked: 10000·major + 100·minor + patch, as in ASPENFLICK_VERSION.
 #[no_mangle]
-pub extern "C" fn aspenflick_version_1() -> u32
+pub extern "C" fn aspenflick_version_2() -> u32
     ensures { λ n. ⌜ n ≡ version ⌝ }
 {
     10000 * VERSION_MAJOR + 100 * VERSION_MINOR + VERSION_PATCH
@@ -147,7 +152,7 @@ pub extern "C" fn aspenflick_version_1() -> u32
 
 // How many bytes the beam mask of a setting has; 0 for a pair that is no setting. Panels have the mask of one of them.
 #[no_mangle]
-pub extern "C" fn aspenflick_mask_bytes_1(n1: u32, n2: u32) -> u32
+pub extern "C" fn aspenflick_mask_bytes_2(n1: u32, n2: u32) -> u32
     ensures { λ n. ⌜ n ≡ (isSetting n1 n2 ⇒ maskBytes n1 n2 ∣ 0) ⌝ }
 {
     settings::mask_bytes(n1, n2)
@@ -155,17 +160,17 @@ pub extern "C" fn aspenflick_mask_bytes_1(n1: u32, n2: u32) -> u32
 
 // Writes the phases of a report's precoder, each 0 to 191 in 1/192 turns: layer after layer, each of P entries, the first
 // polarisation first. Entries past the v·P of the answer stay as lent. (2,1) with mode 1, v = 1, i11 = 1, i2 = 1 and the
-// rest 0 gives 0 24 48 72.
+// rest 0 gives 0 24 48 72 and names the beam (1,0).
 #[no_mangle]
-pub extern "C" fn aspenflick_phases_1(
+pub extern "C" fn aspenflick_phases_2(
     r: report::Report,
-    beams: &[u8],
+    mask: &[u8],
     ranks: u8,
     out: &mut [turn::Part],
 ) -> plan::Record
-    ensures { λ a. ⌜ PhasesLeft single r (now (beams .entry)) ranks (now (out .entry)) a (now (out .exit)) ⌝ }
+    ensures { λ a. ⌜ PhasesLeft single r (now (mask .entry)) ranks (now (out .entry)) a (now (out .exit)) ⌝ }
 {
-    precoder::phases(r, beams, ranks, out)
+    precoder::phases(r, mask, ranks, out)
 }
 
 // Writes the weights of a report's precoder: for each entry that `aspenflick_phases` writes, x and then y, the whole
@@ -173,44 +178,44 @@ pub extern "C" fn aspenflick_phases_1(
 // counts 16-bit numbers. Numbers past the 2·v·P of the answer stay as lent. The report above gives 16384 0 11585 11585
 // 0 16384 -11585 11585.
 #[no_mangle]
-pub extern "C" fn aspenflick_weights_1(
+pub extern "C" fn aspenflick_weights_2(
     r: report::Report,
-    beams: &[u8],
+    mask: &[u8],
     ranks: u8,
     out: &mut [i16],
 ) -> plan::Record
-    ensures { λ a. ⌜ WeightsLeft single r (now (beams .entry)) ranks (now (out .entry)) a (now (out .exit)) ⌝ }
+    ensures { λ a. ⌜ WeightsLeft single r (now (mask .entry)) ranks (now (out .entry)) a (now (out .exit)) ⌝ }
 {
-    precoder::weights(r, beams, ranks, out)
+    precoder::weights(r, mask, ranks, out)
 }
 
 // Writes the phases of a multi-panel report's precoder as `aspenflick_phases` does: layer after layer, each of P entries,
 // panel by panel, the first polarisation of a panel first. (2,2,1) with mode 1, v = 1, i11 = 1, i14 = 1 0 0, i2 = 2 0 0
 // and the rest 0 gives 0 24 96 120 48 72 144 168.
 #[no_mangle]
-pub extern "C" fn aspenflick_panel_phases_1(
+pub extern "C" fn aspenflick_panel_phases_2(
     r: multi::PanelReport,
-    beams: &[u8],
+    mask: &[u8],
     ranks: u8,
     out: &mut [turn::Part],
 ) -> plan::Record
-    ensures { λ a. ⌜ PhasesLeft panels r (now (beams .entry)) ranks (now (out .entry)) a (now (out .exit)) ⌝ }
+    ensures { λ a. ⌜ PhasesLeft panels r (now (mask .entry)) ranks (now (out .entry)) a (now (out .exit)) ⌝ }
 {
-    panels::phases(r, beams, ranks, out)
+    panels::phases(r, mask, ranks, out)
 }
 
 // Writes the weights of a multi-panel report's precoder: for each entry that `aspenflick_panel_phases` writes, x and then y,
 // as `aspenflick_weights` does.
 #[no_mangle]
-pub extern "C" fn aspenflick_panel_weights_1(
+pub extern "C" fn aspenflick_panel_weights_2(
     r: multi::PanelReport,
-    beams: &[u8],
+    mask: &[u8],
     ranks: u8,
     out: &mut [i16],
 ) -> plan::Record
-    ensures { λ a. ⌜ WeightsLeft panels r (now (beams .entry)) ranks (now (out .entry)) a (now (out .exit)) ⌝ }
+    ensures { λ a. ⌜ WeightsLeft panels r (now (mask .entry)) ranks (now (out .entry)) a (now (out .exit)) ⌝ }
 {
-    panels::weights(r, beams, ranks, out)
+    panels::weights(r, mask, ranks, out)
 }
 
 // Reads one step of a log of reports: what stands at the place `from`, which is the front, 0, or the `next` of the step
@@ -220,7 +225,7 @@ pub extern "C" fn aspenflick_panel_weights_1(
 // end of the log gives the end. (2,1) with mode 1, v = 1, i11 = 1, i2 = 1 and the rest 0 is 02 01 01 01 01 00 00 01; the
 // number 200 is C8 01.
 #[no_mangle]
-pub extern "C" fn aspenflick_log_next_1(log: &[u8], from: usize) -> log::LogStep
+pub extern "C" fn aspenflick_log_next_2(log: &[u8], from: usize) -> log::LogStep
     ensures { λ s. ⌜ s ≡ stepAt (now (log .entry)) from ⌝ }
 {
     log::step_at(log, from)

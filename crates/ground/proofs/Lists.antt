@@ -3,13 +3,13 @@ use mathlib.Core.Path.{_≡_, refl, sym, ap, subst, _∙_}
 use mathlib.Core.Logic.{inl, inr}
 use mathlib.Core.Bool.{Bool, true, false, not, _&&_}
 use mathlib.Core.List.{List, [], _∷_, _++_, map, append-nil, append-assoc}
-use Prim.Native.Nat.{ℕ, zero, suc, _+_, _*_, _<_}
+use Prim.Native.Nat.{ℕ, zero, suc, _+_, _-_, _*_, _<_, _≤_}
 use native.Mathlib.Nat.{zero-mul, not-suc-le-zero, le-of-suc-le-suc}
 use native.Mathlib.Omega.{arith}
 use lib.Dec.{T, T-not, eqb, eqb-refl}
 use lib.ListN.{length, getD, take, drop, replicate, length-append}
 use lib.Seq.{getD-take, getD-drop, take-at, drop-append-add}
-use Rattle.ground.specs.Lists.{join, some, each, among, Member, member-first, member-further}
+use Rattle.ground.specs.Lists.{join, places, some, each, among, Member, member-first, member-further}
 use Rattle.ground.specs.Lists.{NoRepeats, once-nil, once-cons}
 use Rattle.ground.proofs.Tests.{and-left, and-right, or-cases, or-left, or-right}
 
@@ -32,10 +32,42 @@ module _ {A B : Type 0} (f : A → B) where
   take-map (suc n) [] = refl
   take-map (suc n) (x ∷ xs) = ap (λ (ys : List B). f x ∷ ys) (take-map n xs)
 
-pub all-ones : {A : Type 0} (f : A → ℕ) (xs : List A) (x : A) → ((i : ℕ) → i < length xs → f (getD xs i x) ≡ 1)
-    → map f xs ≡ replicate (length xs) 1
-all-ones f [] x h = refl
-all-ones f (y ∷ xs) x h = rw (h 0 (omega arith), all-ones f xs x (λ i k. h (suc i) (omega arith)))
+-- at once, or one after the other
+pub map-twice : {A B C : Type 0} (f : A → C) (g : B → C) (h : A → B) → ((x : A) → f x ≡ g (h x)) → (xs : List A)
+    → map f xs ≡ map g (map h xs)
+map-twice f g h e [] = refl
+map-twice f g h e (x ∷ xs) = λ i. e x i ∷ map-twice f g h e xs i
+
+-- to one and the same
+pub all-same : {A B : Type 0} (f : A → B) (b : B) (xs : List A) (x : A)
+    → ((i : ℕ) → i < length xs → f (getD xs i x) ≡ b) → map f xs ≡ replicate (length xs) b
+all-same f b [] x h = refl
+all-same f b (y ∷ xs) x h = rw (h 0 (omega arith), all-same f b xs x (λ i k. h (suc i) (omega arith)))
+
+-- ---- lists in so many places
+
+places-nil : {A : Type 0} (n : ℕ) (x : A) → places n x [] ≡ replicate n x
+unfolding places
+places-nil zero x = refl
+places-nil (suc n) x = ap (λ xs. x ∷ xs) (places-nil n x)
+
+-- of what is left nothing but x
+pub places-same : {A : Type 0} (n m : ℕ) (x : A) → places n x (replicate m x) ≡ replicate n x
+unfolding places
+places-same n zero x = places-nil n x
+places-same zero (suc m) x = refl
+places-same (suc n) (suc m) x = ap (λ xs. x ∷ xs) (places-same n m x)
+
+pub places-append : {A : Type 0} (n : ℕ) (x : A) (ys : List A) → length ys ≤ n
+    → places n x ys ≡ ys ++ replicate (n - length ys) x
+unfolding places
+places-append n x [] h =
+    let e : n ≡ n - 0 = omega arith in
+    places-nil n x ∙ ap (λ (k : ℕ). replicate k x) e
+places-append zero x (y ∷ ys) h = absurd (not-suc-le-zero h)
+places-append (suc n) x (y ∷ ys) h =
+    let e : n - length ys ≡ suc n - suc (length ys) = omega arith in
+    ap (λ xs. y ∷ xs) (places-append n x ys (le-of-suc-le-suc h)) ∙ ap (λ (k : ℕ). y ∷ (ys ++ replicate k x)) e
 
 -- ---- tests over a list
 

@@ -19,6 +19,12 @@ along xs f = join (map f xs)
 abbrev pub over : {A : Type 0} → List A → List A → List A
 over xs ys = xs ++ drop (length xs) ys
 
+-- n places: from the front on what stands in a list, and x in those that it leaves
+unfoldable pub places : {A : Type 0} → ℕ → A → List A → List A
+places zero x ys = []
+places (suc n) x [] = x ∷ places n x []
+places (suc n) x (y ∷ ys) = y ∷ places n x ys
+
 -- n numbers from k on: k, k + 1, ..
 unfoldable pub numbersFrom : ℕ → ℕ → List ℕ
 numbersFrom k zero = []

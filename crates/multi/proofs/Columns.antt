@@ -12,10 +12,10 @@ use Rattle.ground.specs.Lists.{every, all-nil, all-cons}
 use Rattle.ground.proofs.Booleans.{either, cond-both}
 use Rattle.ground.proofs.Lists.{map-at}
 use Rattle.ground.proofs.Tests.{every-at}
+use Rattle.turn.specs.declared.Beam.{Beam}
 use Rattle.turn.specs.Phase.{half, eighth, phase}
 use Rattle.turn.specs.Cancel.{Multiples}
 use Rattle.turn.specs.Apart.{flipped, agreeing, differing, Even}
-use Rattle.settings.specs.declared.Beam.{Beam}
 use Rattle.settings.specs.Settings.{across, down}
 use Rattle.settings.specs.Ranges.{beam}
 use Rattle.settings.proofs.Known as one

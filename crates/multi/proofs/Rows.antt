@@ -10,7 +10,7 @@ use lib.ListN.{length, getD}
 use borrow.Author.Tests.{eq-eqb, le-ltb}
 use Rattle.ground.specs.Lists.{each, every}
 use Rattle.ground.proofs.Tests.{and-left, and-right, or-else, two-le, two-eq, every-at}
-use Rattle.settings.specs.declared.Beam.{Beam}
+use Rattle.turn.specs.declared.Beam.{Beam}
 use Rattle.settings.specs.Ranges.{beam, kTwo, kThree}
 use Rattle.multi.specs.declared.PanelReport.{PanelReport}
 use Rattle.multi.specs.Panels.{panelSettings, kThreeFour, panelRows, kOf, InRange}

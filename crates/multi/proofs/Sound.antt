@@ -9,7 +9,7 @@ use lib.Dec.{T, eqb, eqb→eq}
 use lib.ListN.{length, getD}
 use Rattle.ground.specs.Lists.{each, every}
 use Rattle.ground.proofs.Tests.{or-cases, or-else, every-at}
-use Rattle.settings.specs.declared.Beam.{Beam}
+use Rattle.turn.specs.declared.Beam.{Beam}
 use Rattle.settings.specs.Settings.{o1, o2}
 use Rattle.settings.specs.Ranges.{beam, kTwo}
 use Rattle.settings.proofs.Known as one

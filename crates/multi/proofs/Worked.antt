@@ -27,28 +27,28 @@ plain mode i14 i2 = asks 2 2 1 mode 1 0 0 0 i14 i2
 pub reports : List (Row PanelReport)
 reports =
     -- two panels: both polarisations of the first panel, and then of the second; one entry too few
-    accepts (asks 2 2 1 1 1 1 0 0 (three 1 0 0) (three 2 0 0)) (ones 1) 8 1 8 0
+    accepts (asks 2 2 1 1 1 1 0 0 (three 1 0 0) (three 2 0 0)) (ones 1) 8 1 8 ((1, 0) ∷ []) 0
     (0 ∷ 24 ∷ 96 ∷ 120 ∷ 48 ∷ 72 ∷ 144 ∷ 168 ∷ [])
     ∷ refuses (asks 2 2 1 1 1 1 0 0 (three 1 0 0) (three 2 0 0)) (ones 1) 7 11
     -- two layers: beam 11 is beam 3, and in layer 2 half a turn is added to the second polarisation of each panel; with
     -- the bit of either beam zero
-    ∷ differs (asks 2 2 1 1 2 7 0 1 (three 1 0 0) (three 0 0 0)) (ones 1) 8 2 16 8
+    ∷ differs (asks 2 2 1 1 2 7 0 1 (three 1 0 0) (three 0 0 0)) (ones 1) 8 2 16 ((7, 0) ∷ (3, 0) ∷ []) 8
     (0 ∷ 72 ∷ 96 ∷ 168 ∷ 48 ∷ 120 ∷ 144 ∷ 24 ∷ []) ((0, 4) ∷ (96, 4) ∷ [])
     ∷ refuses (asks 2 2 1 1 2 7 0 1 (three 1 0 0) (three 0 0 0)) (247 ∷ []) 16 10
     ∷ refuses (asks 2 2 1 1 2 7 0 1 (three 1 0 0) (three 0 0 0)) (127 ∷ []) 16 10
     -- one layer reads one bit
-    ∷ accepts (asks 2 2 1 1 1 7 0 0 (three 0 0 0) (three 0 0 0)) (128 ∷ []) 8 1 8 0 []
+    ∷ accepts (asks 2 2 1 1 1 7 0 0 (three 0 0 0) (three 0 0 0)) (128 ∷ []) 8 1 8 ((7, 0) ∷ []) 0 []
     -- four panels, each with its own phase
-    ∷ accepts (asks 4 2 1 1 1 0 0 0 (three 1 2 3) (three 1 0 0)) (ones 1) 16 1 16 0
+    ∷ accepts (asks 4 2 1 1 1 0 0 0 (three 1 2 3) (three 1 0 0)) (ones 1) 16 1 16 ((0, 0) ∷ []) 0
     (0 ∷ 0 ∷ 48 ∷ 48 ∷ 48 ∷ 48 ∷ 96 ∷ 96 ∷ 96 ∷ 96 ∷ 144 ∷ 144 ∷ 144 ∷ 144 ∷ 0 ∷ 0 ∷ [])
     -- mode 2: a(1)·b(0) is one quarter of a turn and a(2)·b(1) three; a(0)·b(1) is one quarter too
-    ∷ accepts (plain 2 (three 1 2 0) (three 3 0 1)) (ones 1) 8 1 8 0 (0 ∷ 0 ∷ 144 ∷ 144 ∷ 48 ∷ 48 ∷ 144 ∷ 144 ∷ [])
-    ∷ accepts (plain 2 (three 0 2 0) (three 3 1 1)) (ones 1) 8 1 8 0 (0 ∷ 0 ∷ 144 ∷ 144 ∷ 48 ∷ 48 ∷ 144 ∷ 144 ∷ [])
+    ∷ accepts (plain 2 (three 1 2 0) (three 3 0 1)) (ones 1) 8 1 8 ((0, 0) ∷ []) 0 (0 ∷ 0 ∷ 144 ∷ 144 ∷ 48 ∷ 48 ∷ 144 ∷ 144 ∷ [])
+    ∷ accepts (plain 2 (three 0 2 0) (three 3 1 1)) (ones 1) 8 1 8 ((0, 0) ∷ []) 0 (0 ∷ 0 ∷ 144 ∷ 144 ∷ 48 ∷ 48 ∷ 144 ∷ 144 ∷ [])
     -- three layers: layer 3 is layer 1 but for the second polarisations
-    ∷ accepts (asks 2 2 2 2 3 5 6 2 (three 3 2 0) (three 1 1 1)) (ones 8) 16 3 48 32
+    ∷ accepts (asks 2 2 2 2 3 5 6 2 (three 3 2 0) (three 1 1 1)) (ones 8) 16 3 48 ((5, 6) ∷ (1, 2) ∷ (5, 6) ∷ []) 32
     (0 ∷ 144 ∷ 120 ∷ 72 ∷ 144 ∷ 96 ∷ 72 ∷ 24 ∷ 0 ∷ 144 ∷ 120 ∷ 72 ∷ 48 ∷ 0 ∷ 168 ∷ 120 ∷ [])
     -- four layers: layer 4
-    ∷ accepts (asks 4 2 1 1 4 3 0 0 (three 1 2 3) (three 1 0 0)) (ones 1) 16 4 64 48
+    ∷ accepts (asks 4 2 1 1 4 3 0 0 (three 1 2 3) (three 1 0 0)) (ones 1) 16 4 64 ((3, 0) ∷ (7, 0) ∷ (3, 0) ∷ (7, 0) ∷ []) 48
     (0 ∷ 168 ∷ 144 ∷ 120 ∷ 48 ∷ 24 ∷ 0 ∷ 168 ∷ 96 ∷ 72 ∷ 48 ∷ 24 ∷ 144 ∷ 120 ∷ 96 ∷ 72 ∷ [])
     -- 1: three panels, one panel, four panels of eight by one
     ∷ refuses (asks 3 2 1 1 1 0 0 0 (three 0 0 0) (three 0 0 0)) (ones 1) 12 1
@@ -64,21 +64,21 @@ reports =
     ∷ refuses (asks 2 2 1 1 0 0 0 0 (three 0 0 0) (three 0 0 0)) (ones 1) 8 4
     -- 5: bit 3 of the rank mask is for four layers, and bits 4 to 7 are not read
     ∷ ranked 247 (refuses (asks 2 2 1 1 4 0 0 0 (three 0 0 0) (three 0 0 0)) (ones 1) 32 5)
-    ∷ ranked 8 (accepts (asks 2 2 1 1 4 0 0 0 (three 0 0 0) (three 0 0 0)) (ones 1) 8 4 32 0 [])
+    ∷ ranked 8 (accepts (asks 2 2 1 1 4 0 0 0 (three 0 0 0) (three 0 0 0)) (ones 1) 8 4 32 ((0, 0) ∷ (4, 0) ∷ (0, 0) ∷ (4, 0) ∷ []) 0 [])
     -- 6: in mode 2 i11 has all its values
-    ∷ accepts (asks 2 2 1 2 1 7 0 0 (three 0 0 0) (three 0 0 0)) (ones 1) 8 1 8 0 []
+    ∷ accepts (asks 2 2 1 2 1 7 0 0 (three 0 0 0) (three 0 0 0)) (ones 1) 8 1 8 ((7, 0) ∷ []) 0 []
     ∷ refuses (asks 2 2 1 2 1 8 0 0 (three 0 0 0) (three 0 0 0)) (ones 1) 8 6
     -- 7: and i12
-    ∷ accepts (asks 2 2 2 2 1 0 7 0 (three 0 0 0) (three 0 0 0)) (ones 8) 16 1 16 0 []
+    ∷ accepts (asks 2 2 2 2 1 0 7 0 (three 0 0 0) (three 0 0 0)) (ones 8) 16 1 16 ((0, 7) ∷ []) 0 []
     ∷ refuses (asks 2 2 2 2 1 0 8 0 (three 0 0 0) (three 0 0 0)) (ones 8) 16 7
     ∷ refuses (asks 2 2 1 1 1 0 1 0 (three 0 0 0) (three 0 0 0)) (ones 1) 8 7
     -- 8: no row for one layer; four for three layers of (8,1), whole beams although it has 32 ports
     ∷ refuses (asks 2 2 1 1 1 0 0 1 (three 0 0 0) (three 0 0 0)) (ones 1) 8 8
-    ∷ accepts (asks 2 8 1 1 3 0 0 3 (three 0 0 0) (three 0 0 0)) (ones 4) 32 3 96 32
+    ∷ accepts (asks 2 8 1 1 3 0 0 3 (three 0 0 0) (three 0 0 0)) (ones 4) 32 3 96 ((0, 0) ∷ (16, 0) ∷ (0, 0) ∷ []) 32
     (0 ∷ 96 ∷ 0 ∷ 96 ∷ 0 ∷ 96 ∷ 0 ∷ 96 ∷ [])
     ∷ refuses (asks 2 8 1 1 3 0 0 4 (three 0 0 0) (three 0 0 0)) (ones 4) 96 8
     -- 12: a used number and an unused one, by panels and mode; after 8 and before 9
-    ∷ accepts (plain 1 (three 3 0 0) (three 3 0 0)) (ones 1) 8 1 8 0 []
+    ∷ accepts (plain 1 (three 3 0 0) (three 3 0 0)) (ones 1) 8 1 8 ((0, 0) ∷ []) 0 []
     ∷ refuses (plain 1 (three 4 0 0) (three 4 0 0)) (ones 1) 8 12
     ∷ refuses (plain 1 (three 0 1 0) (three 0 0 0)) (ones 1) 8 12
     ∷ refuses (plain 2 (three 0 0 1) (three 0 0 0)) (ones 1) 8 12
@@ -88,7 +88,7 @@ reports =
     ∷ refuses (plain 1 (three 0 0 0) (three 4 0 0)) (ones 1) 8 9
     ∷ refuses (asks 2 2 1 1 2 0 0 0 (three 0 0 0) (three 2 0 0)) (ones 1) 16 9
     ∷ refuses (plain 1 (three 0 0 0) (three 0 1 0)) (ones 1) 8 9
-    ∷ accepts (plain 2 (three 0 0 0) (three 0 1 1)) (ones 1) 8 1 8 0 []
+    ∷ accepts (plain 2 (three 0 0 0) (three 0 1 1)) (ones 1) 8 1 8 ((0, 0) ∷ []) 0 []
     ∷ refuses (plain 2 (three 0 0 0) (three 0 0 2)) (ones 1) 8 9
     ∷ []
 

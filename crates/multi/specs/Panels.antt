@@ -7,8 +7,8 @@ use lib.Dec.{eqb, leb, ltb}
 use lib.ListN.{length, getD}
 use Rattle.ground.specs.Cases.{_⇒_∣_}
 use Rattle.ground.specs.Lists.{some}
+use Rattle.turn.specs.declared.Beam.{Beam}
 use Rattle.turn.specs.Phase.{turn, half, quarter, eighth}
-use Rattle.settings.specs.declared.Beam.{Beam}
 use Rattle.settings.specs.Settings.{o1, o2, across, down, maskBytes}
 use Rattle.settings.specs.Ranges.{beam, kTwo}
 use Rattle.plan.specs.Plan.{Layer, Plan}

@@ -1,7 +1,7 @@
 // The second beam of a report.
 use crate::PanelReport;
-use settings::Beam;
 use settings::Sizes;
+use turn::Beam;
 ghost use mathlib.Core.Path.{_≡_};
 ghost use Rattle.settings.specs.Settings.{sizesOf};
 ghost use Rattle.multi.specs.Panels.{B′, kOf, reached, InRange};

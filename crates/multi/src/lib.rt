@@ -1,6 +1,6 @@
 // A multi-panel report by its own numbers: the first refusal that needs nothing else, or its beams.
-use settings::Beam;
 use settings::Sizes;
+use turn::Beam;
 ghost use mathlib.Core.Path.{_≡_};
 ghost use Rattle.multi.specs.Own.{ownOf};
 

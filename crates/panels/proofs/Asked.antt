@@ -11,7 +11,7 @@ use borrow.Author.Tests.{not-false}
 use Rattle.ground.specs.Lists.{each}
 use Rattle.ground.specs.First.{first}
 use Rattle.ground.proofs.Booleans.{either, cond-both}
-use Rattle.settings.specs.declared.Beam.{Beam}
+use Rattle.turn.specs.declared.Beam.{Beam}
 use Rattle.settings.specs.declared.Sizes.{Sizes}
 use Rattle.settings.specs.Settings.{ports, maskBytes, sizesOf}
 use Rattle.settings.proofs.Steps.{sized}

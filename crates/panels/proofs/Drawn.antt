@@ -1,27 +1,30 @@
 -- What the writer is handed of a report stands for its plan: layer by layer the same columns.
-use mathlib.Core.Path.{_≡_, refl, ap, _∙_}
+use mathlib.Core.Path.{_≡_, refl, sym, ap, ap₂, _∙_}
 use mathlib.Core.Bool.{Bool}
-use mathlib.Core.List.{map}
-use Prim.Native.Nat.{ℕ, _*_, _<_}
+use mathlib.Core.List.{[], map}
+use Prim.Native.Nat.{ℕ, _-_, _*_, _<_}
 use native.Mathlib.Omega.{arith}
 use lib.Dec.{T, eqb, ltb, eqb→eq, ltb→lt}
 use lib.ListN.{getD}
 use borrow.Author.Tests.{eqb-true, eqb-false}
-use Rattle.ground.specs.Lists.{every}
+use Rattle.ground.specs.Lists.{places, every}
 use Rattle.ground.proofs.Booleans.{either}
 use Rattle.ground.proofs.Tests.{every-at}
+use Rattle.ground.proofs.Lists.{map-twice}
+use Rattle.turn.specs.declared.Beam.{Beam}
 use Rattle.turn.specs.Phase.{phase}
 use Rattle.turn.specs.Column.{beam as beamPhases, column as columnPhases}
 use Rattle.turn.proofs.Columns.{column-same}
-use Rattle.plan.specs.Plan.{layerAt, columnOf}
+use Rattle.settings.specs.Ranges.{beam}
+use Rattle.plan.specs.Plan.{layerAt, pairOf, noBeam, named, columnOf}
 use Rattle.plan.specs.Drawing.{coRow, beamAt, columnAt, Draws}
 use Rattle.plan.proofs.Drawn.{beam-drawn}
 use Rattle.multi.specs.declared.PanelReport.{PanelReport}
 use Rattle.multi.specs.Panels.{coefficients, coPhases, Name, B, B′, Column, beamOf, minus, byRank, reached, layerOf}
 use Rattle.multi.specs.Panels.{plan, InRange}
-use Rattle.panels.specs.Drawing.{place, codeOf, codesOf, quartersOf, inParts, stepOf, drawingOf}
+use Rattle.panels.specs.Drawing.{place, codeOf, codesOf, chosen, beamsBy, quartersOf, inParts, stepOf, drawingOf}
 use Rattle.multi.proofs.InRange.{v-few, mode-two, four-panels}
-use Rattle.multi.proofs.Columns.{column, layer-is, within}
+use Rattle.multi.proofs.Columns.{column, layer-is, within, base-is}
 use Rattle.multi.proofs.Sound.{plan-sound}
 use Rattle.panels.proofs.Codes.{code-place, panel, two-panels, all-panels}
 
@@ -52,6 +55,18 @@ co-drawn r h c =
     (panel c _ 2 _ (few 2 tt) (omega arith) (omega arith))
     (panel c _ 3 _ (few 3 tt) (omega arith) (omega arith))))))
 
+-- (i11,i12) and B′, placed by rank, are the beams of the layers
+pub beams-placed : (r : PanelReport) → InRange r → {b : Beam} → b ≡ reached r B′
+    → beamsBy (r .v) (beam (r .i11) (r .i12)) b ≡ named (plan r)
+unfolding beamsBy named layerOf
+beams-placed r h e =
+    ap₂ (beamsBy (r .v)) (sym (base-is r h)) e
+    ∙ ap (places 8 noBeam) (map-twice _ pairOf (layerOf r) (λ c. by-name (beamOf c)) (getD byRank (r .v - 1) []))
+  where
+    by-name : (x : Name) → chosen (reached r B) (reached r B′) x ≡ reached r x
+    by-name B = refl
+    by-name B′ = refl
+
 -- the beam at the place of a name
 beam-at : (r : PanelReport) → InRange r → (x : Name)
     → beamAt (drawingOf r) (place x) ≡ beamPhases (plan r .block) (reached r x .l) (reached r x .m)
@@ -66,7 +81,7 @@ beam-at r h x =
 
 module _ (r : PanelReport) (h : InRange r) (j : ℕ) (k : j < r .v) where
   code-is : getD (codesOf (r .v)) j 0 ≡ codeOf (column (r .v) j)
-  unfolding codesOf byRank every
+  unfolding codesOf places byRank every
   code-is =
       let same : ℕ → ℕ → Bool = λ v j. eqb (getD (codesOf v) j 0) (codeOf (column v j)) in
       let rank = every-at 5 (λ v. every v (same v)) tt (r .v) (omega (arith, v-few r h)) in

@@ -1,17 +1,20 @@
 -- What the writer is handed of a report.
 use mathlib.Core.Path.{_≡_}
-use mathlib.Core.List.{List, [], _∷_, _++_, map}
-use Prim.Native.Nat.{ℕ, _+_, _*_, _/_}
+use mathlib.Core.List.{List, [], _∷_, map}
+use Prim.Native.Nat.{ℕ, _+_, _-_, _*_, _/_}
 use lib.Dec.{eqb}
-use lib.ListN.{getD, take, replicate}
+use lib.ListN.{getD}
 use Rattle.ground.specs.Cases.{_⇒_∣_}
+use Rattle.ground.specs.Lists.{places}
+use Rattle.turn.specs.declared.Beam.{Beam}
 use Rattle.turn.specs.Phase.{turn, quarter, phase}
-use Rattle.settings.specs.declared.Beam.{Beam}
 use Rattle.settings.specs.Settings.{across, down}
 use Rattle.plan.specs.declared.Drawing.{Drawing}
+use Rattle.plan.specs.declared.Lineup.{Lineup}
+use Rattle.plan.specs.Plan.{noBeam}
 use Rattle.masks.specs.declared.Needs.{Needs}
 use Rattle.multi.specs.declared.PanelReport.{PanelReport}
-use Rattle.multi.specs.Panels.{Name, B, B′, Column, W¹, W², byRank, reached}
+use Rattle.multi.specs.Panels.{Name, B, B′, Column, W¹, W², beamOf, byRank, reached}
 
 -- the code of a column: 512 times the place of its beam, 256 for the co-phases, and where it is W² a bit for every second
 -- block of up to eight
@@ -23,9 +26,21 @@ abbrev pub codeOf : Column → ℕ
 codeOf (W¹ x) = 512 * place x + 256
 codeOf (W² x) = 512 * place x + 256 + 0b10101010
 
--- the codes of a rank, in eight places: those of two layers, or of four, which one and three begin with
+-- the codes of a rank, in eight places
 unfoldable pub codesOf : ℕ → List ℕ
-codesOf v = take 8 (map codeOf (getD byRank (eqb v 2 ⇒ 1 ∣ 3) []) ++ replicate 8 0)
+codesOf v = places 8 0 (map codeOf (getD byRank (v - 1) []))
+
+-- the beam of a column, by those of the report
+abbrev pub chosen : Beam → Beam → Name → Beam
+chosen a b B = a
+chosen a b B′ = b
+
+-- the layers of a rank: their codes, and their beams
+unfoldable pub beamsBy : ℕ → Beam → Beam → List Beam
+beamsBy v a b = places 8 noBeam (map (λ c. chosen a b (beamOf c)) (getD byRank (v - 1) []))
+
+abbrev pub lineupOf : ℕ → Beam → Beam → Lineup
+lineupOf v a b = record { codes = codesOf v; beams = beamsBy v a b }
 
 -- the co-phases of W¹ in whole quarters of a turn, in eight places
 unfoldable pub quartersOf : PanelReport → List ℕ
@@ -48,13 +63,13 @@ pub record HasBeams (r : PanelReport) (x : Needs) : Type 0 where
 abbrev pub stepOf : PanelReport → Beam → ℕ
 stepOf r x = x .l * (turn / across (r .n1)) + 256 * (x .m * (turn / down (r .n2)))
 
+-- those of B and B′, in four places
+abbrev pub stepsOf : PanelReport → List ℕ
+stepsOf r = stepOf r (reached r B) ∷ stepOf r (reached r B′) ∷ 0 ∷ 0 ∷ []
+
+abbrev pub drawnWith : PanelReport → List ℕ → List ℕ → List ℕ → Drawing
+drawnWith r steps co codes =
+    record { v = r .v; pairs = r .ng; rows = r .n1; columns = r .n2; steps = steps; co = co; codes = codes }
+
 unfoldable pub drawingOf : PanelReport → Drawing
-drawingOf r = record {
-  v = r .v;
-  pairs = r .ng;
-  rows = r .n1;
-  columns = r .n2;
-  steps = stepOf r (reached r B) ∷ stepOf r (reached r B′) ∷ 0 ∷ 0 ∷ [];
-  co = inParts (quartersOf r);
-  codes = codesOf (r .v);
-}
+drawingOf r = drawnWith r (stepsOf r) (inParts (quartersOf r)) (codesOf (r .v))

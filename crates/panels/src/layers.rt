@@ -3,7 +3,9 @@ use masks::Needs;
 use multi::Own;
 use multi::PanelReport;
 use plan::Drawing;
+use plan::Lineup;
 use settings::Sizes;
+use turn::Beam;
 use turn::Part;
 use turn::Phase;
 ghost use mathlib.Core.Path.{_≡_};
@@ -16,19 +18,46 @@ ghost use Rattle.settings.specs.Settings.{sizesOf};
 ghost use Rattle.masks.specs.Asks.{Asks};
 ghost use Rattle.multi.specs.Panels.{InRange, indices, panels};
 ghost use Rattle.multi.specs.Own.{ownOf};
-ghost use Rattle.panels.specs.Drawing.{HasBeams, codesOf, quartersOf, inParts, drawingOf};
+ghost use Rattle.panels.specs.Drawing.{HasBeams, lineupOf, quartersOf, inParts, stepsOf, drawnWith};
 
-// The codes of two layers, and of four: 512 for B', 256 for the co-phases, and 170 where half a turn is added to the second
-// polarisation of every panel. One layer and three have the first of the four.
+// The codes of one to four layers: 512 for B', 256 for the co-phases, and 170 where half a turn is added to the second
+// polarisation of every panel.
+const ONE: [u16; 8] = [256, 0, 0, 0, 0, 0, 0, 0]; // W1 B
+
 const TWO: [u16; 8] = [256, 938, 0, 0, 0, 0, 0, 0]; // W1 B, W2 B'
+
+const THREE: [u16; 8] = [256, 768, 426, 0, 0, 0, 0, 0]; // W1 B, W1 B', W2 B
 
 const FOUR: [u16; 8] = [256, 768, 426, 938, 0, 0, 0, 0]; // W1 B, W1 B', W2 B, W2 B'
 
-// The codes of v layers.
-fn codes_of(v: u32) -> [u16; 8]
-    ensures { λ c. ⌜ c ≡ codesOf v ⌝ }
+// The layers of a report by its rank: a and b are B and B'.
+pub fn layers_of(v: u32, a: Beam, b: Beam) -> Lineup
+    requires { ⌜ (1 ≤ v) × (v ≤ 4) ⌝ }
+    ensures { λ y. ⌜ y ≡ lineupOf v a b ⌝ }
 {
-    if v == 2 { TWO } else { FOUR }
+    let none = Beam { l: 0, m: 0 };
+    if v == 1 {
+        return Lineup {
+            codes: ONE,
+            beams: [a, none, none, none, none, none, none, none],
+        };
+    }
+    if v == 2 {
+        return Lineup {
+            codes: TWO,
+            beams: [a, b, none, none, none, none, none, none],
+        };
+    }
+    if v == 3 {
+        return Lineup {
+            codes: THREE,
+            beams: [a, b, a, none, none, none, none, none],
+        };
+    }
+    Lineup {
+        codes: FOUR,
+        beams: [a, b, a, b, none, none, none, none],
+    }
 }
 
 // How many beams v layers have.
@@ -104,7 +133,7 @@ fn four_panels(f: u32, p1: u32, p2: u32, p3: u32) -> [Part; 8]
 }
 
 // The co-phases, panel by panel. In mode 2 a(p) times b(n) is p + n quarters of a turn.
-fn co_of(r: PanelReport) -> [Part; 8]
+pub fn co_of(r: PanelReport) -> [Part; 8]
     requires { ⌜ InRange r ⌝ }
     ensures { λ c. ⌜ c ≡ inParts (quartersOf r) ⌝ }
 {
@@ -130,22 +159,29 @@ fn step_of(l: u32, m: u32, s: Sizes) -> u32
     l * (turn::TURN as u32 / s.across) + 256 * (m * (turn::TURN as u32 / s.down))
 }
 
-// What is to be written of a report.
-pub fn drawing_of(r: PanelReport, s: Sizes, x: Needs) -> Drawing
+// The steps of B and B', in four places.
+pub fn steps_of(r: PanelReport, s: Sizes, x: Needs) -> [u32; 4]
     requires { ⌜ InRange r × (s ≡ sizesOf (r .n1) (r .n2)) × HasBeams r x ⌝ }
-    ensures { λ d. ⌜ d ≡ drawingOf r ⌝ }
+    ensures { λ y. ⌜ y ≡ stepsOf r ⌝ }
 {
     let l = x.l;
     let m = x.m;
     let first = step_of(l[0], m[0], s);
     let second = step_of(l[1], m[1], s);
+    [first, second, 0, 0]
+}
+
+// What is to be written of a report.
+pub fn drawing_of(r: PanelReport, steps: [u32; 4], co: [Part; 8], codes: [u16; 8]) -> Drawing
+    ensures { λ d. ⌜ d ≡ drawnWith r steps co codes ⌝ }
+{
     Drawing {
         v: r.v,
         pairs: r.ng,
         rows: r.n1,
         columns: r.n2,
-        steps: [first, second, 0, 0],
-        co: co_of(r),
-        codes: codes_of(r.v),
+        steps: steps,
+        co: co,
+        codes: codes,
     }
 }

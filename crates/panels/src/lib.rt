@@ -2,6 +2,7 @@
 use multi::PanelReport;
 use plan::Judged;
 use plan::Record;
+use turn::Beam;
 use turn::Part;
 ghost use mathlib.Core.Path.{_≡_};
 ghost use Rattle.plan.specs.Answer.{planned, asked, refusal, judgedBy, PhasesLeft, WeightsLeft};
@@ -21,13 +22,19 @@ fn judge(r: PanelReport, mask: &[u8], ranks: u8, room: usize) -> Judged
     if k != 0 {
         return plan::refuse(k);
     }
-    let drawing = layers::drawing_of(r, o.sizes, x);
+    let co = layers::co_of(r);
+    let steps = layers::steps_of(r, o.sizes, x);
+    let y = layers::layers_of(r.v, Beam { l: r.i11, m: r.i12 }, o.other);
+    let codes = y.codes;
+    let beams = y.beams;
+    let drawing = layers::drawing_of(r, steps, co, codes);
     Judged {
         given: Record {
             refusal: 0,
             ports: r.ng * o.sizes.ports,
             layers: r.v,
             scale: x.entries,
+            beams: beams,
         },
         drawing: drawing,
     }

@@ -1,23 +1,25 @@
 -- What a call gives and leaves, by its contract, of any lawful codebook: the layers and the weights in the buffer.
 use mathlib.Core.Path.{_≡_, refl, sym, ap, _∙_}
 use mathlib.Core.List.{List, _++_, map}
-use Prim.Native.Nat.{ℕ, _*_, _/_, _%_, _<_, _≤_}
+use Prim.Native.Nat.{ℕ, _+_, _-_, _*_, _/_, _%_, _<_, _≤_}
 use native.Mathlib.Omega.{arith}
 use lib.Dec.{T}
 use lib.IntN.{ℤ}
-use lib.ListN.{length, drop, getD, length-map, List·getD-append}
+use lib.ListN.{length, take, drop, getD, replicate, length-map, List·getD-append}
+use lib.Seq.{take-at}
 use borrow.Author.Tests.{eqb-false}
 use Rattle.ground.specs.Lists.{among}
 use Rattle.ground.specs.First.{None}
-use Rattle.ground.proofs.Lists.{map-at, drop-map, take-map}
+use Rattle.ground.proofs.Lists.{map-at, drop-map, take-map, all-same, places-append}
 use Rattle.ground.proofs.First.{some-none}
+use Rattle.turn.specs.declared.Beam.{Beam}
 use Rattle.weight.specs.declared.Weight.{Weight}
 use Rattle.weight.specs.Table.{noWeight, weight, pairs}
 use Rattle.weight.specs.Products.{power, Within, fullPower, powerBelow, powerAbove, portPower}
 use Rattle.weight.proofs.Pairs.{length-numbers, pairs-numbers}
 use Rattle.weight.proofs.Rules.{power-tight, port-within}
 use Rattle.plan.specs.declared.Record.{Record}
-use Rattle.plan.specs.Plan.{layerAt, columnOf, matrix, layerIn}
+use Rattle.plan.specs.Plan.{past, layerAt, pairOf, noBeam, named, columnOf, matrix, layerIn}
 use Rattle.plan.specs.Sound.{Sound}
 use Rattle.plan.specs.Masks.{bitOf, bit, isZero, barred}
 use Rattle.plan.specs.Answer.{Codebook, asked, test, refusal, Called, PhasesLeft, weightsOf}
@@ -63,6 +65,35 @@ module _ {R : Type 0} (b : Codebook R) {InRange : R → Type 0} (lawful : Lawful
         let e = some-none (isZero mask) (b .bitsRead r) (none-of .at 10 (lawful .last-two .0)) .at k t in
         let z = eqb-false (bitOf (getD mask (k / 8) 0) (k % 8)) 0 e in
         omega arith
+
+    -- the beams that are named: those of the layers, one by one
+    pub named-beams : given .beams ≡ map pairOf (b .plan r .layers) ++ replicate (8 - v) noBeam
+    unfolding named
+    named-beams =
+        let many : length (map pairOf (b .plan r .layers)) ≡ v = length-map (b .plan r .layers) pairOf ∙ sound .many in
+        ap (λ (a : Record). a .beams) (as-accepted refl call e _ refl .1)
+        ∙ places-append 8 noBeam (map pairOf (b .plan r .layers)) (omega (arith, many, sound .eight))
+        ∙ ap (λ (n : ℕ). map pairOf (b .plan r .layers) ++ replicate (8 - n) noBeam) many
+
+    pub named-beam : (j : ℕ) → j < v → getD (given .beams) j noBeam ≡ pairOf (layerAt (b .plan r) j)
+    named-beam j h =
+        ap (λ (xs : List Beam). getD xs j noBeam) named-beams
+        ∙ List·getD-append (map pairOf (b .plan r .layers)) _ noBeam j
+        (omega (arith, length-map (b .plan r .layers) pairOf, sound .many))
+        ∙ map-at pairOf (b .plan r .layers) j past noBeam (omega (arith, sound .many))
+
+    -- where the bit of each layer's beam is one, so are those of the beams that are named
+    pub named-bits : ((j : ℕ) → j < v → let x = layerAt (b .plan r) j in bit mask (b .width r * x .l + x .m) ≡ 1)
+        → map (λ x. bit mask (b .width r * x .l + x .m)) (take v (given .beams)) ≡ replicate v 1
+    named-bits ones =
+        let own = map pairOf (b .plan r .layers) in
+        let many : length own ≡ v = length-map (b .plan r .layers) pairOf ∙ sound .many in
+        let bitAt : Beam → ℕ = λ x. bit mask (b .width r * x .l + x .m) in
+        ap (λ (xs : List Beam). map bitAt (take v xs)) named-beams
+        ∙ ap (map bitAt) (take-at own (replicate (8 - v) noBeam) v many)
+        ∙ all-same bitAt 1 own noBeam
+        (λ j h. rw (map-at pairOf (b .plan r .layers) j past noBeam (omega (arith, many, sound .many))) (ones j (omega (arith, many))))
+        ∙ ap (λ (n : ℕ). replicate n 1) many
 
   -- ---- an accepted call of `phases`
 

@@ -5,7 +5,7 @@ use Prim.Native.Nat.{ℕ, _+_, _*_}
 use native.Mathlib.Omega.{arith}
 use lib.ListN.{replicate}
 use Rattle.ground.proofs.First.{first-of, none-zero}
-use Rattle.ground.proofs.Lists.{all-ones, among-at}
+use Rattle.ground.proofs.Lists.{all-same, among-at}
 use Rattle.turn.specs.Exact.{Orthogonal}
 use Rattle.turn.proofs.Cancel.{cancels-orthogonal}
 use Rattle.weight.proofs.Rules.{power-lowest, power-highest}
@@ -38,22 +38,24 @@ demanded b order same lawful r mask ranks = record {
       rw (← same)
       (calls.none-of b lawful r mask ranks room call, λ n. number-given refl call ∙ none-zero _ (b .order) n);
   bits-read-are-one = λ room call e.
-      all-ones (bit mask) (b .bitsRead r) 0
+      all-same (bit mask) 1 (b .bitsRead r) 0
       (λ i h. calls.read-one b lawful r mask ranks room call e _ (rw map-id at (among-at (λ k. k) (b .bitsRead r) 0 i h)));
-  layers-not-barred = λ room call e h.
-      let range = calls.in-range b lawful r mask ranks room call e in
-      let many = lawful .sound r range .many in
-      all-ones (λ (x : Layer). bit mask (b .width r * x .l + x .m)) (b .plan r .layers) past
-      (λ j k. calls.read-one b lawful r mask ranks room call e _ (lawful .beams-read r range h j (omega (arith, many))))
-      ∙ ap (λ (n : ℕ). replicate n 1) many;
+  named-not-barred = λ room call e.
+      let range = calls.in-range b lawful r mask ranks room call e in (
+        calls.named-beams b lawful r mask ranks room call e,
+        λ h.
+            calls.named-bits b lawful r mask ranks room call e
+            (λ j k. calls.read-one b lawful r mask ranks room call e _ (lawful .beams-read r range h j k)),
+      );
   neighbours-not-barred = λ room call e h j k.
       let range = calls.in-range b lawful r mask ranks room call e in
       let x = layerAt (b .plan r) j in
       let bits = threeBits (beamsAcross (b .plan r)) (b .width r) (x .l) (x .m) in
-      all-ones (bit mask) bits 0
+      rw (calls.named-beam b lawful r mask ranks room call e j k)
+      (all-same (bit mask) 1 bits 0
       (λ i few.
       calls.read-one b lawful r mask ranks room call e _
-      (lawful .neighbours-read r range h j k _ (rw map-id at (among-at (λ k. k) bits 0 i few))));
+      (lawful .neighbours-read r range h j k _ (rw map-id at (among-at (λ k. k) bits 0 i few)))));
   accepted-as-weights = λ call e.
       let long = calls.length-weights b lawful r mask ranks call e in
       let p = as-accepted refl call e _ long in

@@ -1,16 +1,17 @@
 -- Worked reports of any codebook, as rows of a table: what is asked, and what is answered.
-use mathlib.Core.List.{List, [], _∷_, _++_}
+use mathlib.Core.List.{List, [], _∷_, _++_, map}
 use Prim.Native.Nat.{ℕ, _-_, _/_, _%_, _^_}
 use lib.Dec.{eqb}
 use lib.ListN.{length, take, drop, replicate}
 use Rattle.ground.specs.Cases.{_⇒_∣_}
-use Rattle.ground.specs.Lists.{join, along, numbersFrom, some}
+use Rattle.ground.specs.Lists.{join, along, places, numbersFrom, some}
 use Rattle.ground.specs.First.{first}
+use Rattle.turn.specs.declared.Beam.{Beam}
 use Rattle.turn.specs.Phase.{turn, difference}
 use Rattle.turn.specs.Column.{steps, product, grid, step, beam, column}
 use Rattle.turn.specs.Exact.{count, differences}
 use Rattle.plan.specs.declared.Record.{Record}
-use Rattle.plan.specs.Plan.{columnOf, matrix}
+use Rattle.plan.specs.Plan.{noBeam, named, columnOf, matrix}
 use Rattle.plan.specs.Masks.{bit, isZero, barred, rankBarred}
 use Rattle.plan.specs.Answer.{Codebook, asked, refused, planned, recordOf, bufferOf, early, test, refusal}
 
@@ -44,13 +45,18 @@ abbrev pub row : {R : Type 0} → R → List ℕ → ℕ → Record → ℕ → 
 row r mask room given place xs ds =
     record { report = r; mask = mask; ranks = 255; room = room; given = given; place = place; entries = xs; differ = ds }
 
--- accepted, with some of its entries and the differences between layers 1 and 2
-abbrev pub differs : {R : Type 0} → R → List ℕ → ℕ → ℕ → ℕ → ℕ → List ℕ → List (ℕ × ℕ) → Row R
-differs r mask p v scale = row r mask scale (record { refusal = 0; ports = p; layers = v; scale = scale })
+-- the beams of some layers, by their numbers, in eight places
+abbrev pub inPlaces : List (ℕ × ℕ) → List Beam
+inPlaces xs = places 8 noBeam (map (λ x. record { l = x .0; m = x .1 }) xs)
 
--- accepted, with some of its entries
-abbrev pub accepts : {R : Type 0} → R → List ℕ → ℕ → ℕ → ℕ → ℕ → List ℕ → Row R
-accepts r mask p v scale place entries = differs r mask p v scale place entries []
+-- accepted, with the beams of its layers, some of its entries and the differences between layers 1 and 2
+abbrev pub differs : {R : Type 0} → R → List ℕ → ℕ → ℕ → ℕ → List (ℕ × ℕ) → ℕ → List ℕ → List (ℕ × ℕ) → Row R
+differs r mask p v scale beams =
+    row r mask scale (record { refusal = 0; ports = p; layers = v; scale = scale; beams = inPlaces beams })
+
+-- accepted, with the beams of its layers and some of its entries
+abbrev pub accepts : {R : Type 0} → R → List ℕ → ℕ → ℕ → ℕ → List (ℕ × ℕ) → ℕ → List ℕ → Row R
+accepts r mask p v scale beams place entries = differs r mask p v scale beams place entries []
 
 -- refused, and the whole buffer as lent
 abbrev pub refuses : {R : Type 0} → R → List ℕ → ℕ → ℕ → Row R
@@ -86,7 +92,7 @@ tallied (x ∷ xs) p left = tally (differences (take p left) (take p (drop p lef
 unfoldable pub definedBy : {R : Type 0} → Codebook R → Row R → Record × List ℕ × List (ℕ × ℕ)
 unfolding
     steps product grid step beam column
-    some join first columnOf matrix
+    places some join first named columnOf matrix
     bit isZero barred rankBarred
     early test refusal numbersFrom count difference differences tally tallied
 definedBy b x =

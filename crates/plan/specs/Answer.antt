@@ -5,14 +5,14 @@ use mathlib.Core.List.{List, [], _∷_, _++_, map}
 use Prim.Native.Nat.{ℕ, zero, suc, _*_, _/_}
 use lib.Dec.{eqb, ltb}
 use lib.IntN.{ℤ}
-use lib.ListN.{length, drop}
+use lib.ListN.{length, drop, replicate}
 use Rattle.ground.specs.Cases.{_⇒_∣_}
 use Rattle.ground.specs.First.{first}
 use Rattle.weight.specs.Table.{weight, numbers}
 use Rattle.plan.specs.declared.Record.{Record}
 use Rattle.plan.specs.declared.Drawing.{Drawing}
 use Rattle.plan.specs.declared.Judged.{Judged}
-use Rattle.plan.specs.Plan.{Plan, matrix}
+use Rattle.plan.specs.Plan.{Plan, noBeam, named, matrix}
 use Rattle.plan.specs.Masks.{barred, rankBarred}
 
 -- what is asked: a report, the masks, and for how many entries the lent buffer has room
@@ -45,13 +45,13 @@ shared k = eqb k 3 || eqb k 5 || eqb k 10 || eqb k 11
 abbrev pub own : ℕ → Bool
 own k = not (shared k)
 
--- the refused record: the number, and zeros
+-- the refused record: the number, zeros, and no beam
 abbrev pub refused : ℕ → Record
-refused k = record { refusal = k; ports = 0; layers = 0; scale = 0 }
+refused k = record { refusal = k; ports = 0; layers = 0; scale = 0; beams = replicate 8 noBeam }
 
--- the accepted record of a plan: P, v and the scale v·P
+-- the accepted record of a plan: P, v, the scale v·P, and the beams of the layers
 abbrev pub planned : Plan → Record
-planned p = record { refusal = 0; ports = p .ports; layers = p .v; scale = p .v * p .ports }
+planned p = record { refusal = 0; ports = p .ports; layers = p .v; scale = p .v * p .ports; beams = named p }
 
 -- by the number of the refusal: the accepted record, or the refused one
 abbrev pub recordOf : Record → ℕ → Record

@@ -8,15 +8,15 @@ use mathlib.Core.Path.{_≡_}
 use mathlib.Core.Logic.{_≢_, _↔_}
 use mathlib.Core.Bool.{true}
 use mathlib.Core.List.{List, [], _∷_, _++_, map}
-use Prim.Native.Nat.{ℕ, _+_, _*_, _/_, _<_, _≤_}
+use Prim.Native.Nat.{ℕ, _+_, _-_, _*_, _/_, _<_, _≤_}
 use lib.IntN.{ℤ, natAbs}
-use lib.ListN.{length, drop, getD, replicate}
+use lib.ListN.{length, take, drop, getD, replicate}
 use Rattle.ground.specs.First.{None, FirstOf}
 use Rattle.turn.specs.Exact.{Orthogonal}
 use Rattle.weight.specs.Table.{noWeight, weight, pairs}
 use Rattle.weight.specs.Products.{re, im, power, Within, cross, portPower}
 use Rattle.plan.specs.declared.Record.{Record}
-use Rattle.plan.specs.Plan.{beamsAcross, layerAt, matrix, layerIn}
+use Rattle.plan.specs.Plan.{beamsAcross, pairOf, noBeam, matrix, layerIn}
 use Rattle.plan.specs.Masks.{bit, threeBits}
 use Rattle.plan.specs.Answer.{asked, Codebook, refused, planned, recordOf, bufferOf, test, refusal, Called}
 use Rattle.plan.specs.Answer.{PhasesLeft, weightsOf, WeightsLeft}
@@ -47,14 +47,15 @@ module _ {R : Type 0} (b : Codebook R) (InRange : R → Type 0) (order : List �
     pub first-fault-given : {A : Type 0} (room : ℕ) {answer lent left : List A} {given : Record}
         → Called b r mask ranks room answer lent given left → given .refusal ≢ 0
         → FirstOf (test b (asked r mask ranks room)) order (given .refusal)
-    -- 1c. A refusal leaves every entry of the buffer as lent, and gives zeros beside its number.
+    -- 1c. A refusal leaves every entry of the buffer as lent, and gives zeros beside its number, and no beam but (0,0).
     pub refused-as-lent : {A : Type 0} (room : ℕ) {answer lent left : List A} {given : Record}
         → Called b r mask ranks room answer lent given left → given .refusal ≢ 0
         → (left ≡ lent) × (given ≡ refused (given .refusal))
     -- 1d. The numbers of an accepted report are all in range as they were reported: nothing is pulled into range.
     pub accepted-in-range : {A : Type 0} (room : ℕ) {answer lent left : List A} {given : Record}
         → Called b r mask ranks room answer lent given left → given .refusal ≡ 0 → InRange r
-    -- 2a. An accepted report leaves its matrix, v·P phases, and after it what was lent. Its record holds 0, P, v and v·P.
+    -- 2a. An accepted report leaves its matrix, v·P phases, and after it what was lent. Its record holds 0, P, v and v·P, and
+    -- the beams of its layers.
     pub accepted-as-matrix : {lent left : List ℕ} {given : Record} → PhasesLeft b r mask ranks lent given left
         → given .refusal ≡ 0
         → (left ≡ W ++ drop (v * P) lent) × (length W ≡ v * P) × (given ≡ planned (b .plan r))
@@ -66,16 +67,18 @@ module _ {R : Type 0} (b : Codebook R) (InRange : R → Type 0) (order : List �
     pub bits-read-are-one : {A : Type 0} (room : ℕ) {answer lent left : List A} {given : Record}
         → Called b r mask ranks room answer lent given left → given .refusal ≡ 0
         → map (bit mask) (b .bitsRead r) ≡ replicate (length (b .bitsRead r)) 1
-    -- 2c. Where the mask has a bit for each beam, that of each layer's beam is one.
-    pub layers-not-barred : {A : Type 0} (room : ℕ) {answer lent left : List A} {given : Record}
-        → Called b r mask ranks room answer lent given left → given .refusal ≡ 0 → b .beamed r ≡ true
-        → map (λ x. bit mask (b .width r * x .l + x .m)) (b .plan r .layers) ≡ replicate v 1
-    -- 2c. Where beams have half their length, three bits are one for each layer: those of its beam (l,m) and of its
-    -- neighbours (l - 1, m) and (l + 1, m), the first numbers modulo N1·O1. (The half-length beam of (i11, i12) has
-    -- l = 2·i11 and m = i12.)
+    -- 2c. The record of an accepted report names its beams: that of each layer in turn, and (0,0) in what is left of eight
+    -- places. Where the mask has a bit for each beam, that of each beam named for a layer is one.
+    pub named-not-barred : {A : Type 0} (room : ℕ) {answer lent left : List A} {given : Record}
+        → Called b r mask ranks room answer lent given left → given .refusal ≡ 0
+        → (given .beams ≡ map pairOf (b .plan r .layers) ++ replicate (8 - v) noBeam)
+        × (b .beamed r ≡ true → map (λ x. bit mask (b .width r * x .l + x .m)) (take v (given .beams)) ≡ replicate v 1)
+    -- 2c. Where beams have half their length, three bits are one for each layer: those of the beam (l,m) that is named for
+    -- it and of its neighbours (l - 1, m) and (l + 1, m), the first numbers modulo N1·O1. (The half-length beam of
+    -- (i11, i12) has l = 2·i11 and m = i12.)
     pub neighbours-not-barred : {A : Type 0} (room : ℕ) {answer lent left : List A} {given : Record}
         → Called b r mask ranks room answer lent given left → given .refusal ≡ 0 → b .isHalf r ≡ true
-        → (j : ℕ) → j < v → let x = layerAt (b .plan r) j in
+        → (j : ℕ) → j < v → let x = getD (given .beams) j noBeam in
         map (bit mask) (threeBits (beamsAcross (b .plan r)) (b .width r) (x .l) (x .m)) ≡ 1 ∷ 1 ∷ 1 ∷ []
     -- 2d. An accepted report leaves its weights, 2·v·P numbers, and after them what was lent.
     pub accepted-as-weights : {lent left : List ℤ} {given : Record} → WeightsLeft b r mask ranks lent given left

@@ -2,8 +2,9 @@
 use mathlib.Core.List.{List, [], map}
 use Prim.Native.Nat.{ℕ, _*_}
 use lib.ListN.{getD, take, drop}
+use Rattle.ground.specs.Lists.{join, places}
+use Rattle.turn.specs.declared.Beam.{Beam}
 use Rattle.turn.specs.Column.{Setting, beam, column}
-use Rattle.ground.specs.Lists.{join}
 
 -- a layer: its beam (l,m), reduced, and its co-phases
 pub record Layer : Type 0 where
@@ -30,6 +31,17 @@ past = record { l = 0; m = 0; co = [] }
 
 abbrev pub layerAt : Plan → ℕ → Layer
 layerAt p j = getD (p .layers) j past
+
+-- the beam of a layer, and that of none
+abbrev pub pairOf : Layer → Beam
+pairOf x = record { l = x .l; m = x .m }
+
+abbrev pub noBeam : Beam
+noBeam = record { l = 0; m = 0 }
+
+-- the beams of the layers, each in its place of eight; (0,0) in those past the last
+unfoldable pub named : Plan → List Beam
+named p = places 8 noBeam (map pairOf (p .layers))
 
 -- the entries of a layer
 unfoldable pub columnOf : Plan → Layer → List ℕ

@@ -1,16 +1,20 @@
 // What a precoder is made of, for any codebook, and what a call answers.
 ghost use mathlib.Core.Path.{_≡_};
 ghost use Rattle.plan.specs.Answer.{refusedBy};
+use turn::Beam;
 use turn::Part;
 
-// What a call answers: the number of the refusal and zeros, or 0, the ports P, the layers v and the scale v·P. A true
-// precoder is the entries divided by the square root of the scale.
+// What a call answers: the number of the refusal and zeros; or 0, the ports P, the layers v, the scale v·P, and for each
+// layer its beam (l,m), reduced: layers of one beam repeat it, and a half-length beam of (l,m) stands as (2·l, m). Beams
+// past the last layer are (0,0), and so are all of two ports. A true precoder is the entries divided by the square root of
+// the scale.
 #[repr(C)]
 pub struct Record {
     pub refusal: u32,
     pub ports: u32,
     pub layers: u32,
     pub scale: u32,
+    pub beams: [Beam; 8],
 }
 
 // What the writer is handed of a plan: v layers; a column of so many pairs of blocks, each block of rows by columns; the
@@ -27,6 +31,12 @@ pub struct Drawing {
     pub codes: [u16; 8],
 }
 
+// The layers of a report, each in its place of eight: its code, and its beam. Unused places have 0, and no beam.
+pub struct Lineup {
+    pub codes: [u16; 8],
+    pub beams: [Beam; 8],
+}
+
 // A report that has been judged: its record, and what is to be written where it is accepted.
 pub struct Judged {
     pub given: Record,
@@ -37,12 +47,14 @@ pub struct Judged {
 pub fn refuse(number: u32) -> Judged
     ensures { λ c. ⌜ c ≡ refusedBy number ⌝ }
 {
+    let none = Beam { l: 0, m: 0 };
     Judged {
         given: Record {
             refusal: number,
             ports: 0,
             layers: 0,
             scale: 0,
+            beams: [none; 8],
         },
         drawing: Drawing {
             v: 0,

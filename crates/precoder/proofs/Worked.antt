@@ -22,25 +22,25 @@ use Rattle.single.specs.Single.{single}
 pub reports : List (Row Report)
 reports =
     -- 1 and 2
-    accepts (asks 2 1 1 1 1 0 0 1) (ones 1) 4 1 4 0 (0 ∷ 24 ∷ 48 ∷ 72 ∷ [])
-    ∷ accepts (asks 2 1 1 2 7 0 1 0) (ones 1) 4 2 8 0 (0 ∷ 168 ∷ 0 ∷ 168 ∷ 0 ∷ 72 ∷ 96 ∷ 168 ∷ [])
+    accepts (asks 2 1 1 1 1 0 0 1) (ones 1) 4 1 4 ((1, 0) ∷ []) 0 (0 ∷ 24 ∷ 48 ∷ 72 ∷ [])
+    ∷ accepts (asks 2 1 1 2 7 0 1 0) (ones 1) 4 2 8 ((7, 0) ∷ (3, 0) ∷ []) 0 (0 ∷ 168 ∷ 0 ∷ 168 ∷ 0 ∷ 72 ∷ 96 ∷ 168 ∷ [])
     -- 3: beam 9 is beam 1; with its bit zero
-    ∷ accepts (asks 2 1 2 1 3 0 0 15) (ones 1) 4 1 4 0 (0 ∷ 24 ∷ 144 ∷ 168 ∷ [])
+    ∷ accepts (asks 2 1 2 1 3 0 0 15) (ones 1) 4 1 4 ((1, 0) ∷ []) 0 (0 ∷ 24 ∷ 144 ∷ 168 ∷ [])
     ∷ refuses (asks 2 1 2 1 3 0 0 15) (253 ∷ []) 4 10
     -- 4: layer 2; layers 1 and 2 differ by 0, 64 and 128, four ports each, and by nothing else: thirds, no opposites
-    ∷ differs (asks 3 2 1 3 0 0 3 0) (ones 12) 12 3 36 12
+    ∷ differs (asks 3 2 1 3 0 0 3 0) (ones 12) 12 3 36 ((0, 0) ∷ (8, 0) ∷ (0, 0) ∷ []) 12
     (0 ∷ 0 ∷ 128 ∷ 128 ∷ 64 ∷ 64 ∷ 0 ∷ 0 ∷ 128 ∷ 128 ∷ 64 ∷ 64 ∷ []) ((0, 4) ∷ (64, 4) ∷ (128, 4) ∷ [])
     -- 5: layer 1
-    ∷ accepts (asks 8 1 1 3 1 0 1 1) (ones 4) 16 3 48 0
+    ∷ accepts (asks 8 1 1 3 1 0 1 1) (ones 4) 16 3 48 ((2, 0) ∷ (2, 0) ∷ (2, 0) ∷ []) 0
     (0 ∷ 12 ∷ 24 ∷ 36 ∷ 24 ∷ 36 ∷ 48 ∷ 60 ∷ 48 ∷ 60 ∷ 72 ∷ 84 ∷ 72 ∷ 84 ∷ 96 ∷ 108 ∷ [])
     -- 6
-    ∷ accepts (asks 1 1 1 2 0 0 0 1) (ones 1) 2 2 4 0 (0 ∷ 48 ∷ 0 ∷ 144 ∷ [])
+    ∷ accepts (asks 1 1 1 2 0 0 0 1) (ones 1) 2 2 4 ((0, 0) ∷ (0, 0) ∷ []) 0 (0 ∷ 48 ∷ 0 ∷ 144 ∷ [])
     ∷ refuses (asks 1 1 1 2 0 0 0 2) (ones 1) 4 9
     -- 7
-    ∷ accepts (asks 4 1 1 7 7 0 0 0) (ones 2) 8 7 56 0 []
+    ∷ accepts (asks 4 1 1 7 7 0 0 0) (ones 2) 8 7 56 ((7, 0) ∷ (7, 0) ∷ (11, 0) ∷ (15, 0) ∷ (15, 0) ∷ (3, 0) ∷ (3, 0) ∷ []) 0 []
     ∷ refuses (asks 4 1 1 7 8 0 0 0) (ones 2) 56 6
     -- 8
-    ∷ accepts (asks 3 2 1 8 0 3 0 0) (ones 12) 12 8 96 0 []
+    ∷ accepts (asks 3 2 1 8 0 3 0 0) (ones 12) 12 8 96 ((0, 3) ∷ (0, 3) ∷ (4, 3) ∷ (4, 3) ∷ (0, 7) ∷ (0, 7) ∷ (4, 7) ∷ (4, 7) ∷ []) 0 []
     ∷ refuses (asks 3 2 1 8 0 4 0 0) (ones 12) 96 7
     -- 9
     ∷ refuses (asks 2 1 1 5 0 0 0 0) (ones 1) 20 4
@@ -53,29 +53,29 @@ reports =
     ∷ refuses (asks 8 1 1 3 1 0 0 0) (onesBut 4 1) 48 10
     ∷ refuses (asks 8 1 1 3 1 0 0 0) (onesBut 4 2) 48 10
     ∷ refuses (asks 8 1 1 3 1 0 0 0) (onesBut 4 3) 48 10
-    ∷ accepts (asks 8 1 1 3 1 0 0 0) (14 ∷ 0 ∷ 0 ∷ 0 ∷ []) 16 3 48 0 []
+    ∷ accepts (asks 8 1 1 3 1 0 0 0) (14 ∷ 0 ∷ 0 ∷ 0 ∷ []) 16 3 48 ((2, 0) ∷ (2, 0) ∷ (2, 0) ∷ []) 0 []
     -- at i11 = 0 the first is of the last row, (31,0); at the last i11 it is the third
     ∷ refuses (asks 8 1 1 3 0 0 0 0) (onesBut 4 31) 48 10
-    ∷ accepts (asks 8 1 1 3 0 0 0 0) (3 ∷ 0 ∷ 0 ∷ 128 ∷ []) 16 3 48 0 []
+    ∷ accepts (asks 8 1 1 3 0 0 0 0) (3 ∷ 0 ∷ 0 ∷ 128 ∷ []) 16 3 48 ((0, 0) ∷ (0, 0) ∷ (0, 0) ∷ []) 0 []
     ∷ refuses (asks 8 1 1 4 15 0 0 0) (onesBut 4 31) 64 10
-    ∷ accepts (asks 8 1 1 4 15 0 0 0) (0 ∷ 0 ∷ 0 ∷ 224 ∷ []) 16 4 64 0 []
+    ∷ accepts (asks 8 1 1 4 15 0 0 0) (0 ∷ 0 ∷ 0 ∷ 224 ∷ []) 16 4 64 ((30, 0) ∷ (30, 0) ∷ (30, 0) ∷ (30, 0) ∷ []) 0 []
     -- m is kept: at (1,3) of (4,2) the bits of (1,3), (2,3) and (3,3), and not those of (2,2) and (2,4)
     ∷ refuses (asks 4 2 1 3 1 3 0 0) (onesBut 16 11) 48 10
     ∷ refuses (asks 4 2 1 3 1 3 0 0) (onesBut 16 19) 48 10
     ∷ refuses (asks 4 2 1 3 1 3 0 0) (onesBut 16 27) 48 10
-    ∷ accepts (asks 4 2 1 3 1 3 0 0) (onesBut 16 18) 16 3 48 0 []
-    ∷ accepts (asks 4 2 1 3 1 3 0 0) (onesBut 16 20) 16 3 48 0 []
+    ∷ accepts (asks 4 2 1 3 1 3 0 0) (onesBut 16 18) 16 3 48 ((2, 3) ∷ (2, 3) ∷ (2, 3) ∷ []) 0 []
+    ∷ accepts (asks 4 2 1 3 1 3 0 0) (onesBut 16 20) 16 3 48 ((2, 3) ∷ (2, 3) ∷ (2, 3) ∷ []) 0 []
     -- at (0,5) of (4,4), four layers, those of (15,5), (0,5) and (1,5), and not those of (15,4) and (15,6)
     ∷ refuses (asks 4 4 1 4 0 5 0 0) (onesBut 32 245) 128 10
     ∷ refuses (asks 4 4 1 4 0 5 0 0) (onesBut 32 5) 128 10
     ∷ refuses (asks 4 4 1 4 0 5 0 0) (onesBut 32 21) 128 10
-    ∷ accepts (asks 4 4 1 4 0 5 0 0) (onesBut 32 244) 32 4 128 0 []
-    ∷ accepts (asks 4 4 1 4 0 5 0 0) (onesBut 32 246) 32 4 128 0 []
+    ∷ accepts (asks 4 4 1 4 0 5 0 0) (onesBut 32 244) 32 4 128 ((0, 5) ∷ (0, 5) ∷ (0, 5) ∷ (0, 5) ∷ []) 0 []
+    ∷ accepts (asks 4 4 1 4 0 5 0 0) (onesBut 32 246) 32 4 128 ((0, 5) ∷ (0, 5) ∷ (0, 5) ∷ (0, 5) ∷ []) 0 []
     -- whole beams are read by their own bits alone: two layers, and three at 12 ports
     ∷ refuses (asks 8 1 1 2 2 0 0 0) (onesBut 4 2) 32 10
-    ∷ accepts (asks 8 1 1 2 2 0 0 0) (4 ∷ 0 ∷ 0 ∷ 0 ∷ []) 16 2 32 0 []
+    ∷ accepts (asks 8 1 1 2 2 0 0 0) (4 ∷ 0 ∷ 0 ∷ 0 ∷ []) 16 2 32 ((2, 0) ∷ (2, 0) ∷ []) 0 []
     ∷ refuses (asks 6 1 1 3 2 0 0 0) (onesBut 3 6) 36 10
-    ∷ accepts (asks 6 1 1 3 2 0 0 0) (68 ∷ 0 ∷ 0 ∷ []) 12 3 36 0 []
+    ∷ accepts (asks 6 1 1 3 2 0 0 0) (68 ∷ 0 ∷ 0 ∷ []) 12 3 36 ((2, 0) ∷ (6, 0) ∷ (2, 0) ∷ []) 0 []
     ∷ []
 
 -- what the definitions give; it is computed with all of them

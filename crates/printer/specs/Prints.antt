@@ -16,6 +16,7 @@ use Rattle.single.specs.Single.{single}
 use Rattle.text.specs.Text.{recordText, unreadableText, isWritten, Writes}
 use Rattle.line.specs.declared.Reading.{Reading}
 use Rattle.line.specs.declared.Reading.the-variants.{Read, Unreadable as Unread}
+use Rattle.printer.specs.declared.FirstLine.{FirstLine}
 use Rattle.printer.specs.declared.Answer.{Answer}
 use Rattle.printer.specs.declared.Answer.the-variants.{Accepted, Refused, Unreadable, NoRoom}
 use Rattle.printer.specs.declared.Printed.{Printed}
@@ -36,9 +37,13 @@ refusalOf r = refusal single (askedOf r)
 abbrev pub recordFor : Report → Record
 recordFor r = recordOf (planned (plan r)) (refusalOf r)
 
+-- what an accepted record tells in the first line of its text
+abbrev pub firstLineOf : Record → FirstLine
+firstLineOf a = record { ports = a .ports; layers = a .layers; scale = a .scale }
+
 -- the answer by a record
 unfoldable pub answerBy : Record → Answer
-answerBy a = eqb (a .refusal) 0 ⇒ Accepted a ∣ Refused (a .refusal)
+answerBy a = eqb (a .refusal) 0 ⇒ Accepted (firstLineOf a) ∣ Refused (a .refusal)
 
 abbrev pub answerOf : Reading → Answer
 answerOf (Read r) = answerBy (recordFor r)

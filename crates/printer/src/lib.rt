@@ -9,10 +9,17 @@ ghost use Rattle.line.specs.declared.Reading.the-variants.{Read};
 ghost use Rattle.printer.specs.declared.Answer.the-variants.{NoRoom};
 ghost use Rattle.printer.specs.Prints.{answerBy, Outcome, Prints};
 
-// How a line is answered: by a precoder, whose record is held, by a refusal, by the word that it has not the form of a
-// report, or, where fewer bytes are lent than the text has, by nothing.
+// The numbers of the first line of a precoder's text: the ports P, the layers v and the scale v·P.
+pub struct FirstLine {
+    pub ports: u32,
+    pub layers: u32,
+    pub scale: u32,
+}
+
+// How a line is answered: by a precoder, of which the first line is held, by a refusal, by the word that it has not the
+// form of a report, or, where fewer bytes are lent than the text has, by nothing.
 pub enum Answer {
-    Accepted(Record),
+    Accepted(FirstLine),
     Refused(u32),
     Unreadable,
     NoRoom,
@@ -35,7 +42,11 @@ fn answer_by(a: Record) -> Answer
     if number != 0 {
         return Answer::Refused(number);
     }
-    Answer::Accepted(a)
+    Answer::Accepted(FirstLine {
+        ports: a.ports,
+        layers: a.layers,
+        scale: a.scale,
+    })
 }
 
 // An answer whose text has n bytes in the lent buffer; without any there was no room.

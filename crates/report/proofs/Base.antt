@@ -6,7 +6,7 @@ use native.Mathlib.Nat.{add-zero, mul-zero, zero-mod, mod-eq-of-lt}
 use native.Mathlib.Omega.{arith}
 use lib.Dec.{eqb}
 use borrow.Author.Tests.{lt-ltb, le-ltb}
-use Rattle.settings.specs.declared.Beam.{Beam}
+use Rattle.turn.specs.declared.Beam.{Beam}
 use Rattle.settings.specs.Settings.{across, down}
 use Rattle.settings.specs.Ranges.{beam, halvesI11, i11Values, halvesI12, i12Values, i2Values}
 use Rattle.settings.proofs.Ranked.{i11-few, i12-few}

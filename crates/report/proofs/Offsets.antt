@@ -8,7 +8,7 @@ use lib.Dec.{eqb, leb, ltb, lit≤}
 use lib.ListN.{length, getD, length-map}
 use borrow.Author.Tests.{ne-eqb, le-leb, lt-leb}
 use Rattle.ground.proofs.Booleans.{cond-both, cond-each}
-use Rattle.settings.specs.declared.Beam.{Beam}
+use Rattle.turn.specs.declared.Beam.{Beam}
 use Rattle.settings.specs.declared.Sizes.{Sizes}
 use Rattle.settings.specs.Ranges.{beam, halfLength, kRows}
 use Rattle.report.specs.declared.Report.{Report}

@@ -8,7 +8,7 @@ use native.Mathlib.Nat.{mod-lt, eq-or-lt-of-le}
 use native.Mathlib.Omega.{arith}
 use lib.ListN.{length, getD}
 use borrow.Author.Tests.{eq-eqb, ne-eqb, lt-leb}
-use Rattle.settings.specs.declared.Beam.{Beam}
+use Rattle.turn.specs.declared.Beam.{Beam}
 use Rattle.settings.specs.declared.Sizes.{Sizes}
 use Rattle.settings.specs.Settings.{isSetting, across, down}
 use Rattle.settings.specs.Ranges.{beam}
@@ -63,7 +63,7 @@ module _ (r : Report) (h : InRange r) (two : r .n1 ≡ 1) where
   two-ports-beam i =
       one-beam (r .n1) (r .n2) two (one-by-one _ _ (h .setting) two) (beams-within r (h .setting) i)
 
-  two-ports-whole : isHalf r ≡ false
+  pub two-ports-whole : isHalf r ≡ false
   two-ports-whole = whole-few r (omega (arith, two-ports-v r h two))
 
   pub two-ports-count : length (beams r) ≡ r .v

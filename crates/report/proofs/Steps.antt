@@ -9,7 +9,7 @@ use lib.ListN.{getD}
 use borrow.Author.Tests.{ne-eqb, le-ltb, lt-leb}
 use Rattle.ground.specs.Lists.{each, every}
 use Rattle.ground.proofs.Tests.{or-else, two-le, every-at}
-use Rattle.settings.specs.declared.Beam.{Beam}
+use Rattle.turn.specs.declared.Beam.{Beam}
 use Rattle.settings.specs.declared.Sizes.{Sizes}
 use Rattle.settings.specs.Settings.{settings, isSetting, ports, o1, o2, across, down, sizesOf}
 use Rattle.settings.specs.Ranges.{beam, halfLength, kTwo, kThree, kRows, i13Values}

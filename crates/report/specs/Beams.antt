@@ -6,7 +6,7 @@ use lib.Dec.{eqb, leb, ltb}
 use lib.ListN.{length, getD}
 use Rattle.ground.specs.Cases.{_⇒_∣_}
 use Rattle.ground.specs.First.{first}
-use Rattle.settings.specs.declared.Beam.{Beam}
+use Rattle.turn.specs.declared.Beam.{Beam}
 use Rattle.settings.specs.declared.Sizes.{Sizes}
 use Rattle.settings.specs.Settings.{ports, o1, o2, across, down, sizesOf}
 use Rattle.settings.specs.Ranges.{beam, modeTwo, halfLength, kRows}

@@ -1,8 +1,8 @@
 // The beams B, B', B'' and B''' of a report.
 use crate::Beams;
 use crate::Report;
-use settings::Beam;
 use settings::Sizes;
+use turn::Beam;
 ghost use mathlib.Core.Path.{_≡_};
 ghost use mathlib.Core.Bool.{true, false};
 ghost use mathlib.Core.List.{[], _∷_};

@@ -1,5 +1,5 @@
 // The rows (k1,k2) for i13, decided by the columns of the standard's tables.
-use settings::Beam;
+use turn::Beam;
 ghost use mathlib.Core.Path.{_≡_};
 ghost use mathlib.Core.List.{[], _∷_};
 ghost use lib.ListN.{getD};

@@ -10,12 +10,6 @@ mod values;
 pub use values::is_half_length;
 pub use values::is_mode_two;
 
-// The beam (l,m), or a step from one beam to another.
-pub struct Beam {
-    pub l: u32,
-    pub m: u32,
-}
-
 // What follows from a setting: the ports P, N1·O1 and N2·O2, and the bytes of the beam mask. Zeros for a pair that is none.
 pub struct Sizes {
     pub ports: u32,

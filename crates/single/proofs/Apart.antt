@@ -9,8 +9,8 @@ use lib.Dec.{T, eqb, ltb, eqb→eq, ltb→lt}
 use lib.ListN.{length, getD}
 use Rattle.ground.specs.Lists.{every, each}
 use Rattle.ground.proofs.Tests.{or-else, every-at}
+use Rattle.turn.specs.declared.Beam.{Beam}
 use Rattle.turn.specs.Apart.{agreeing, differing, Even}
-use Rattle.settings.specs.declared.Beam.{Beam}
 use Rattle.settings.specs.Settings.{settings, ports}
 use Rattle.settings.specs.Ranges.{beam, halfLength, kTwo, kThree, kRows, i13Values}
 use Rattle.settings.proofs.Known.{at-setting}

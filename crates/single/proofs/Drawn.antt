@@ -7,7 +7,7 @@ use native.Mathlib.Omega.{arith}
 use lib.Dec.{T, eqb, eqb→eq}
 use lib.ListN.{getD}
 use Rattle.ground.proofs.Booleans.{either}
-use Rattle.ground.specs.Lists.{every}
+use Rattle.ground.specs.Lists.{places, every}
 use Rattle.ground.proofs.Tests.{every-at}
 use Rattle.turn.specs.Phase.{half, phase}
 use Rattle.turn.specs.Column.{beam as beamOf, column}
@@ -74,7 +74,7 @@ module _ (r : Report) (h : InRange r) (j : ℕ) (k : j < r .v) where
   by-rank a b t = eqb→eq (a (r .v) j) (b (r .v) j) (at-rank r h (λ v j. eqb (a v j) (b v j)) t j k)
 
   code-place : placeOf code ≡ placeAt r j
-  unfolding drawingOf codesOf byRank every
+  unfolding drawingOf codesOf places byRank every
   code-place =
       let halves = every-at 4 (λ j. eqb (placeOf (getD halfCodes j 0)) 0) tt j in
       either (isHalf r) (λ e. rw e (eqb→eq _ 0 (halves (omega (arith, halved r e .0)))))
@@ -83,7 +83,7 @@ module _ (r : Report) (h : InRange r) (j : ℕ) (k : j < r .v) where
   -- of whole beams: nothing is added to the first polarisation, and y to the second
   whole-added : (co : List ℕ) → let y = bracket (r .v) j .added in
       map phase (coRow (0 ∷ phase (fOf r) ∷ co) (getD (codesOf (r .v)) j 0) 2) ≡ map phase (0 ∷ phaseOf (fOf r) y ∷ [])
-  unfolding coRow coAt codesOf byRank every
+  unfolding coRow coAt codesOf places byRank every
   whole-added co =
       let c : ℕ → ℕ → ℕ = λ v j. getD (codesOf v) j 0 in
       let y : ℕ → ℕ → Added = λ v j. bracket v j .added in

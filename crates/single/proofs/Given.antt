@@ -11,8 +11,8 @@ use lib.ListN.{getD, List·getD-eq-default}
 use borrow.Author.Tests.{not-false}
 use Rattle.ground.proofs.Booleans.{either}
 use Rattle.ground.specs.First.{first}
+use Rattle.turn.specs.declared.Beam.{Beam}
 use Rattle.turn.specs.Phase.{turn, quarter, phase}
-use Rattle.settings.specs.declared.Beam.{Beam}
 use Rattle.settings.specs.Settings.{isSetting, ports, across, down, maskBytes, sizesOf}
 use Rattle.settings.specs.Ranges.{beam}
 use Rattle.settings.proofs.Known.{known, ports-few}

@@ -9,6 +9,7 @@ use Rattle.report.specs.Rules.{InRange}
 use Rattle.report.specs.Beams.{beamsOf}
 use Rattle.report.proofs.InRange.{in-range-zero}
 use Rattle.plan.specs.declared.Drawing.{Drawing}
+use Rattle.plan.specs.declared.Lineup.{Lineup}
 use Rattle.plan.specs.declared.Judged.{Judged}
 use Rattle.plan.specs.Answer.{planned, asked, refusal, refusedBy, judgedBy}
 use Rattle.plan.proofs.Answers.{refused-judged}
@@ -19,7 +20,7 @@ use Rattle.masks.specs.Asks.{Asks}
 use Rattle.masks.proofs.Refused.{admitted-refusal}
 use Rattle.single.specs.Plan.{plan}
 use Rattle.single.specs.Single.{indices, single}
-use Rattle.single.specs.Drawing.{drawingOf, acceptedAs}
+use Rattle.single.specs.Drawing.{lineupOf, drawingOf, acceptedAs}
 use Rattle.single.proofs.Lawful.{single-lawful}
 use Rattle.single.proofs.Given.{in-range-said, ports-are}
 
@@ -40,10 +41,10 @@ module _ (r : Report) (mask : List ℕ) (ranks room : ℕ) {x : Needs} (a : Asks
   pub judged-in-range : k ≡ 0 → InRange r
   judged-in-range z = accepted-in-range single single-lawful r mask ranks room (sym number ∙ z)
 
-  pub judged-accepted : {b : Beams} {s : Drawing} {c : Judged} → k ≡ 0 → b ≡ beamsOf r → s ≡ drawingOf r
-      → c ≡ acceptedAs (b .ports) (r .v) (x .entries) s → Is c
-  judged-accepted z e drawn p =
+  pub judged-accepted : {b : Beams} {l : Lineup} {s : Drawing} {c : Judged} → k ≡ 0 → b ≡ beamsOf r → l ≡ lineupOf r
+      → s ≡ drawingOf r → c ≡ acceptedAs (b .ports) (r .v) (x .entries) (l .beams) s → Is c
+  judged-accepted z e layers drawn p =
       let h = judged-in-range z in
       let ports = ports-are r h (in-range-said r e h) in
       let entries = a .entries-are (a .refusal-is ∙ in-range-zero r h) in
-      p ∙ rw (sym number ∙ z) (λ i. acceptedAs (ports i) (r .v) (entries i) (drawn i))
+      p ∙ rw (sym number ∙ z) (λ i. acceptedAs (ports i) (r .v) (entries i) (layers i .beams) (drawn i))

@@ -14,7 +14,7 @@ use Rattle.ground.specs.First.{numbered, part}
 use Rattle.ground.proofs.Booleans.{either, cond-both}
 use Rattle.ground.proofs.Tests.{or-cases}
 use Rattle.ground.proofs.Lists.{among-at}
-use Rattle.settings.specs.declared.Beam.{Beam}
+use Rattle.turn.specs.declared.Beam.{Beam}
 use Rattle.settings.specs.Settings.{twoPorts, across, down, maskBytes}
 use Rattle.settings.specs.Ranges.{beam}
 use Rattle.settings.proofs.Known.{mask-bits}

@@ -12,7 +12,7 @@ use Rattle.ground.specs.Lists.{every, each}
 use Rattle.ground.proofs.Booleans.{either, and-true-left, and-true-right}
 use Rattle.ground.proofs.Tests.{or-else, every-at}
 use Rattle.ground.proofs.Lists.{map-at}
-use Rattle.settings.specs.declared.Beam.{Beam}
+use Rattle.turn.specs.declared.Beam.{Beam}
 use Rattle.settings.specs.Settings.{settings, ports}
 use Rattle.settings.specs.Ranges.{beam, halfLength}
 use Rattle.settings.proofs.Known.{at-setting}
@@ -27,14 +27,17 @@ use Rattle.single.specs.Plan.{fOf, tOf, withBeam, whole, quartered, laye
 
 -- ---- half-length beams
 
--- they are used with up to four layers, on sixteen ports and more
-pub halved : (r : Report) → isHalf r ≡ true → (r .v ≤ 4) × (16 ≤ ports (r .n1) (r .n2))
+-- they are used with three layers or four, on sixteen ports and more
+pub halved : (r : Report) → isHalf r ≡ true → (r .v ≤ 4) × (16 ≤ ports (r .n1) (r .n2)) × (3 ≤ r .v)
 unfolding halfLength
 halved r e =
     let a = leb 3 (r .v) in
     let b = leb (r .v) 4 in
-    let d = leb 16 (ports (r .n1) (r .n2)) in
-    (leb-true _ 4 (and-true-right a b (and-true-left (a && b) d e)), leb-true 16 _ (and-true-right (a && b) d e))
+    let d = leb 16 (ports (r .n1) (r .n2)) in (
+      leb-true _ 4 (and-true-right a b (and-true-left (a && b) d e)),
+      leb-true 16 _ (and-true-right (a && b) d e),
+      leb-true 3 _ (and-true-left a b (and-true-left (a && b) d e)),
+    )
 
 -- N1 is even there
 pub even-rows : (r : Report) → InRange r → isHalf r ≡ true → r .n1 / 2 * 2 ≡ r .n1

@@ -5,6 +5,7 @@ pub mod Apart
 pub mod Told
 pub mod Sound
 pub mod Lawful
+pub mod InPlace
 pub mod Drawn
 pub mod Given
 pub mod Asked

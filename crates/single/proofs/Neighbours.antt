@@ -12,7 +12,7 @@ use borrow.Author.Tests.{ne-eqb}
 use Rattle.ground.specs.Lists.{NoRepeats}
 use Rattle.ground.proofs.Booleans.{either}
 use Rattle.ground.proofs.Members.{three-once}
-use Rattle.settings.specs.declared.Beam.{Beam}
+use Rattle.turn.specs.declared.Beam.{Beam}
 use Rattle.settings.specs.Settings.{ports, twoPorts, o1, o2, across, down}
 use Rattle.settings.specs.Ranges.{beam, modeTwo, halvesI11, i11Values}
 use Rattle.settings.proofs.Known.{one-by-one}

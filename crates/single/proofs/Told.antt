@@ -12,12 +12,12 @@ use Rattle.ground.specs.Lists.{each, all-nil, all-cons}
 use Rattle.ground.proofs.Booleans.{either, same-truth}
 use Rattle.ground.proofs.Tests.{and-left, and-right, or-cases, two-eq}
 use Rattle.ground.proofs.Lists.{map-at}
+use Rattle.turn.specs.declared.Beam.{Beam}
 use Rattle.turn.specs.Phase.{turn, quarter, twelfth, difference}
 use Rattle.turn.specs.Column.{Setting}
 use Rattle.turn.specs.Exact.{differences}
 use Rattle.turn.specs.Cancel.{Twelfths}
 use Rattle.turn.specs.Apart.{flipped, Common}
-use Rattle.settings.specs.declared.Beam.{Beam}
 use Rattle.settings.specs.Settings.{settings, isSetting, o1, o2}
 use Rattle.settings.specs.Ranges.{beam}
 use Rattle.settings.proofs.Known.{at-setting}

@@ -3,7 +3,7 @@ use mathlib.Core.List.{List, [], _∷_, map}
 use Prim.Native.Nat.{ℕ, _+_, _-_, _*_, _%_}
 use lib.Dec.{eqb}
 use Rattle.ground.specs.Cases.{_⇒_∣_}
-use Rattle.settings.specs.declared.Beam.{Beam}
+use Rattle.turn.specs.declared.Beam.{Beam}
 use Rattle.settings.specs.Settings.{twoPorts, across, down}
 use Rattle.settings.specs.Ranges.{beam}
 use Rattle.report.specs.declared.Report.{Report}

@@ -3,9 +3,9 @@ use mathlib.Core.List.{List, [], _∷_, map}
 use Prim.Native.Nat.{ℕ, _*_, _-_, _/_}
 use lib.ListN.{getD, take}
 use Rattle.ground.specs.Cases.{_⇒_∣_}
+use Rattle.turn.specs.declared.Beam.{Beam}
 use Rattle.turn.specs.Phase.{quarter, eighth}
 use Rattle.turn.specs.Column.{Setting}
-use Rattle.settings.specs.declared.Beam.{Beam}
 use Rattle.settings.specs.Settings.{ports, o1, o2}
 use Rattle.settings.specs.Ranges.{beam}
 use Rattle.report.specs.declared.Report.{Report}

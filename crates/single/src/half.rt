@@ -2,8 +2,10 @@
 use masks::Needs;
 use plan::Drawing;
 use plan::Judged;
+use plan::Lineup;
 use report::Beams;
 use report::Report;
+use turn::Beam;
 use turn::Phase;
 ghost use mathlib.Core.Path.{_≡_};
 ghost use mathlib.Core.Bool.{true};
@@ -15,14 +17,36 @@ ghost use Rattle.report.specs.Rules.{InRange};
 ghost use Rattle.report.specs.Beams.{said, beamsOf};
 ghost use Rattle.single.specs.Plan.{plan};
 ghost use Rattle.single.specs.Single.{indices, single};
-ghost use Rattle.single.specs.Drawing.{drawingOf};
+ghost use Rattle.single.specs.Drawing.{lineupOf, drawingOf};
 
 // The codes of their layers: half a turn is added to quarters 2 and 4, 3 and 4, 2 and 3.
 const HALVES: [u16; 8] = [256, 266, 268, 262, 0, 0, 0, 0];
 
-// What is to be written of such a report.
-fn drawing_of(r: Report, b: Beams) -> Drawing
+// The layers of such a report: all have one beam.
+fn layers_of(r: Report, b: Beams) -> Lineup
     requires { ⌜ InRange r × (b ≡ said r 0) × (b .half ≡ true) ⌝ }
+    ensures { λ y. ⌜ y ≡ lineupOf r ⌝ }
+{
+    let rank = r.v;
+    let l = b.l;
+    let m = b.m;
+    let none = Beam { l: 0, m: 0 };
+    let a = Beam { l: l[0], m: m[0] };
+    if rank == 3 {
+        return Lineup {
+            codes: HALVES,
+            beams: [a, a, a, none, none, none, none, none],
+        };
+    }
+    Lineup {
+        codes: HALVES,
+        beams: [a, a, a, a, none, none, none, none],
+    }
+}
+
+// What is to be written of such a report.
+fn drawing_of(r: Report, b: Beams, codes: [u16; 8]) -> Drawing
+    requires { ⌜ InRange r × (b ≡ said r 0) × (b .half ≡ true) × (codes ≡ lineupOf r .codes) ⌝ }
     ensures { λ s. ⌜ s ≡ drawingOf r ⌝ }
 {
     let f = Phase::quarters(b.n);
@@ -37,7 +61,7 @@ fn drawing_of(r: Report, b: Beams) -> Drawing
         columns: r.n2,
         steps: steps,
         co: [0, t.parts, f.parts, both.parts, 0, 0, 0, 0],
-        codes: HALVES,
+        codes: codes,
     }
 }
 
@@ -86,6 +110,9 @@ pub fn judge(r: Report, b: Beams, mask: &[u8], ranks: u8, room: usize) -> Judged
     if k != 0 {
         return plan::refuse(k);
     }
-    let drawing = drawing_of(r, b);
-    crate::accepted(r, b, x.entries, drawing)
+    let y = layers_of(r, b);
+    let codes = y.codes;
+    let beams = y.beams;
+    let drawing = drawing_of(r, b, codes);
+    crate::accepted(r, b, x.entries, beams, drawing)
 }

@@ -2,9 +2,11 @@
 use masks::Needs;
 use plan::Drawing;
 use plan::Judged;
+use plan::Lineup;
 use plan::Record;
 use report::Beams;
 use report::Report;
+use turn::Beam;
 use turn::Phase;
 ghost use mathlib.Core.Path.{_≡_};
 ghost use mathlib.Core.Bool.{false};
@@ -16,9 +18,10 @@ ghost use Rattle.report.specs.Beams.{beams, four, said, beamsOf};
 ghost use Rattle.single.specs.Plan.{plan};
 ghost use Rattle.single.specs.Masks.{twoPortBit};
 ghost use Rattle.single.specs.Single.{indices, single};
-ghost use Rattle.single.specs.Drawing.{codesOf, stepOf, drawingOf, acceptedAs};
+ghost use Rattle.single.specs.Drawing.{lineupOf, stepOf, drawingOf, acceptedAs};
 
 mod half;
+mod two;
 
 // The codes of one to eight layers of whole beams: 512 times the place of a beam, 0 to 3 for B, B', B'', B'''; 256 more where
 // f is added to the second polarisation, and 2 more where half a turn is.
@@ -38,33 +41,65 @@ const SEVEN: [u16; 8] = [256, 258, 768, 1024, 1026, 1536, 1538, 0]; // .., [B'; 
 
 const EIGHT: [u16; 8] = [256, 258, 768, 770, 1024, 1026, 1536, 1538]; // the same, with [B'; f+½] after [B'; f]
 
-// The codes of v layers of whole beams.
-fn codes_of(v: u32) -> [u16; 8]
-    requires { ⌜ (1 ≤ v) × (v ≤ 8) ⌝ }
-    ensures { λ c. ⌜ c ≡ codesOf v ⌝ }
+// The layers of a report with whole beams: a, b, c and d are B, B', B'' and B'''.
+fn layers_of(r: Report, s: Beams) -> Lineup
+    requires { ⌜ InRange r × (s ≡ said r 0) × (s .half ≡ false) ⌝ }
+    ensures { λ y. ⌜ y ≡ lineupOf r ⌝ }
 {
-    if v == 1 {
-        return ONE;
+    let rank = r.v;
+    let l = s.l;
+    let m = s.m;
+    let none = Beam { l: 0, m: 0 };
+    let a = Beam { l: l[0], m: m[0] };
+    if rank == 1 {
+        return Lineup {
+            codes: ONE,
+            beams: [a, none, none, none, none, none, none, none],
+        };
     }
-    if v == 2 {
-        return TWO;
+    let b = Beam { l: l[1], m: m[1] };
+    if rank == 2 {
+        return Lineup {
+            codes: TWO,
+            beams: [a, b, none, none, none, none, none, none],
+        };
     }
-    if v == 3 {
-        return THREE;
+    if rank == 3 {
+        return Lineup {
+            codes: THREE,
+            beams: [a, b, a, none, none, none, none, none],
+        };
     }
-    if v == 4 {
-        return FOUR;
+    if rank == 4 {
+        return Lineup {
+            codes: FOUR,
+            beams: [a, b, a, b, none, none, none, none],
+        };
     }
-    if v == 5 {
-        return FIVE;
+    let c = Beam { l: l[2], m: m[2] };
+    if rank == 5 {
+        return Lineup {
+            codes: FIVE,
+            beams: [a, a, b, b, c, none, none, none],
+        };
     }
-    if v == 6 {
-        return SIX;
+    if rank == 6 {
+        return Lineup {
+            codes: SIX,
+            beams: [a, a, b, b, c, c, none, none],
+        };
     }
-    if v == 7 {
-        return SEVEN;
+    let d = Beam { l: l[3], m: m[3] };
+    if rank == 7 {
+        return Lineup {
+            codes: SEVEN,
+            beams: [a, a, b, c, c, d, d, none],
+        };
     }
-    EIGHT
+    Lineup {
+        codes: EIGHT,
+        beams: [a, a, b, b, c, c, d, d],
+    }
 }
 
 // The steps of the beam (l,m), x + 256·y, where (1,0) has the step px and (0,1) the step py.
@@ -75,14 +110,11 @@ fn step_of(l: u32, m: u32, px: u32, py: u32) -> u32
     l * px + 256 * (m * py)
 }
 
-// The steps of the beams. Two ports have none, and many reports one beam.
+// The steps of the beams. Many reports have one beam.
 fn steps_of(r: Report, b: Beams) -> [u32; 4]
     requires { ⌜ InRange r × (b ≡ said r 0) ⌝ }
     ensures { λ s. ⌜ s ≡ four (stepOf r) (beams r) ⌝ }
 {
-    if r.n1 == 1 {
-        return [0; 4];
-    }
     let px = turn::TURN as u32 / b.across;
     let py = turn::TURN as u32 / b.down;
     let l = b.l;
@@ -98,14 +130,13 @@ fn steps_of(r: Report, b: Beams) -> [u32; 4]
 }
 
 // What is to be written of a report with whole beams.
-fn drawing_of(r: Report, b: Beams) -> Drawing
-    requires { ⌜ InRange r × (b ≡ said r 0) × (b .half ≡ false) ⌝ }
+fn drawing_of(r: Report, b: Beams, codes: [u16; 8]) -> Drawing
+    requires { ⌜ InRange r × (b ≡ said r 0) × (b .half ≡ false) × (codes ≡ lineupOf r .codes) ⌝ }
     ensures { λ s. ⌜ s ≡ drawingOf r ⌝ }
 {
     let v = r.v;
     let f = Phase::quarters(b.n);
     let steps = steps_of(r, b);
-    let codes = codes_of(r.v);
     Drawing {
         v: v,
         pairs: 1,
@@ -171,8 +202,8 @@ fn needs_of(r: Report, b: Beams) -> Needs
 }
 
 // A report that is accepted, and what is to be written of it.
-fn accepted(r: Report, b: Beams, entries: u32, drawing: Drawing) -> Judged
-    ensures { λ c. ⌜ c ≡ acceptedAs (b .ports) (r .v) entries drawing ⌝ }
+fn accepted(r: Report, b: Beams, entries: u32, beams: [Beam; 8], drawing: Drawing) -> Judged
+    ensures { λ c. ⌜ c ≡ acceptedAs (b .ports) (r .v) entries beams drawing ⌝ }
 {
     Judged {
         given: Record {
@@ -180,6 +211,7 @@ fn accepted(r: Report, b: Beams, entries: u32, drawing: Drawing) -> Judged
             ports: b.ports,
             layers: r.v,
             scale: entries,
+            beams: beams,
         },
         drawing: drawing,
     }
@@ -199,6 +231,12 @@ pub fn judge(r: Report, mask: &[u8], ranks: u8, room: usize) -> Judged
     if k != 0 {
         return plan::refuse(k);
     }
-    let drawing = drawing_of(r, b);
-    accepted(r, b, x.entries, drawing)
+    if r.n1 == 1 {
+        return two::accepted(r, b, x.entries);
+    }
+    let y = layers_of(r, b);
+    let codes = y.codes;
+    let beams = y.beams;
+    let drawing = drawing_of(r, b, codes);
+    accepted(r, b, x.entries, beams, drawing)
 }

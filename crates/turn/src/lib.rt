@@ -1,4 +1,4 @@
-// Phases, counted in parts of a turn and always reduced modulo a turn.
+// Phases, counted in parts of a turn and always reduced modulo a turn; and beams by their numbers.
 ghost use mathlib.Core.Path.{_≡_};
 ghost use Prim.Native.Nat.{_+_, _*_};
 ghost use Rattle.turn.specs.Phase.{quarter, eighth, phase};
@@ -14,6 +14,13 @@ fn reduced(x: Part) -> Part
     ensures { λ r. ⌜ r ≡ phase x ⌝ }
 {
     x % TURN
+}
+
+// The beam (l,m), or a step from one beam to another.
+#[repr(C)]
+pub struct Beam {
+    pub l: u32,
+    pub m: u32,
 }
 
 // A phase. Functions that give one give it below a full turn; those that take one take any number of parts.

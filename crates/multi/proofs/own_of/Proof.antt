@@ -3,8 +3,8 @@ use mathlib.Core.Path.{_≡_, refl, sym, ap, _∙_}
 use mathlib.Core.Logic.{_≢_}
 use Prim.Native.Nat.{ℕ, zero, suc}
 use borrow.Author.Needs.{needs}
+use Rattle.turn.specs.declared.Beam.{Beam}
 use Rattle.settings.specs.declared.Sizes.{Sizes}
-use Rattle.settings.specs.declared.Beam.{Beam}
 use Rattle.settings.specs.Settings.{sizesOf}
 use Rattle.settings.specs.Ranges.{beam}
 use Rattle.multi.specs.declared.PanelReport.{PanelReport}

@@ -9,17 +9,22 @@ use Rattle.ground.proofs.Booleans.{either}
 use borrow.Author.Needs.{needs}
 use denote.Ref.{now}
 use Rattle.settings.specs.Settings.{sizesOf}
+use Rattle.plan.specs.declared.Lineup.{Lineup}
+use Rattle.plan.specs.Plan.{named}
 use Rattle.plan.specs.Answer.{asked, refusal}
 use Rattle.plan.proofs.Answers.{refused-judged}
 use Rattle.plan.proofs.Accepted.{accepted-in-range}
 use Rattle.masks.specs.declared.Needs.{Needs}
 use Rattle.masks.specs.Admitted.{admitted, upToTwo}
 use Rattle.masks.proofs.Refused.{admitted-refusal}
-use Rattle.multi.specs.Panels.{InRange, indices, panels}
-use Rattle.multi.proofs.InRange.{in-range-zero}
-use Rattle.multi.proofs.Said.{own-sizes}
+use Rattle.multi.specs.Panels.{plan, InRange, indices, panels}
+use Rattle.multi.proofs.InRange.{v-some, v-few, in-range-zero}
+use Rattle.multi.proofs.Said.{own-number, own-sizes, own-other}
+use Rattle.multi.proofs.Columns.{base-is}
 use Rattle.multi.proofs.Lawful.{panels-lawful}
+use Rattle.panels.specs.Drawing.{drawnWith, drawingOf}
 use Rattle.panels.proofs.Asked.{ports-are, ports-few}
+use Rattle.panels.proofs.Drawn.{beams-placed}
 use Rattle.panels.proofs.judge.Statement.{statement}
 use Rattle.panels.proofs.judge.Tie as tie
 
@@ -72,26 +77,66 @@ returns c =
     let k = c .before .before in
     c .refuse .ensures ∙ refused-judged _ _ (k .admit-two .result) _ (c .before .if1 .taken) (number k)
 
-drawing-of-requires : tie.Need-drawing-of-requires
-drawing-of-requires c κs =
-    let needs = c .before .before in
-    (in-range c, sizes (needs .before), needs .needs-of .ensures .1 (own-zero c))
+co-of-requires : tie.Need-co-of-requires
+co-of-requires c κs = in-range c
 
-mul-t10 : tie.Need-mul-t10
-mul-t10 c =
-    let e = c .before .before .before in
+steps-of-requires : tie.Need-steps-of-requires
+steps-of-requires c κs =
+    let e = c .before in
+    let needs = e .before .before in
+    (in-range e, sizes (needs .before), needs .needs-of .ensures .1 (own-zero e))
+
+layers-of-requires : tie.Need-layers-of-requires
+layers-of-requires c κs =
+    let h = in-range (c .before .before) in
+    (v-some _ h, v-few _ h)
+
+abbrev accepted : tie.After-layers-of → tie.Else1
+accepted c = c .before .before .before
+
+beams-are : (c : tie.After-layers-of) → c .layers-of .result .beams ≡ named (plan (start (accepted c .before) .args .r))
+beams-are c =
+    let own = accepted c .before .before .before in
+    let h = in-range (accepted c) in
+    ap (λ (y : Lineup). y .beams) (c .layers-of .ensures)
+    ∙ beams-placed _ h (own-other _ (own .own-of .ensures) (own-number _ (own .own-of .ensures) ∙ in-range-zero _ h))
+
+abbrev layers : tie.After-drawing-of → tie.After-layers-of
+layers c = c .before .before .before
+
+drawing-is : (c : tie.After-drawing-of)
+    → c .drawing-of .result ≡ drawingOf (start (accepted (layers c) .before) .args .r)
+unfolding drawingOf
+drawing-is c =
+    let y = layers c in
+    let r = start (accepted y .before) .args .r in
+    let steps = y .before in
+    c .drawing-of .ensures
+    ∙ (λ i. drawnWith r (steps .steps-of .ensures i) (steps .before .co-of .ensures i) (y .layers-of .ensures i .codes))
+
+mul-t16 : tie.Need-mul-t16
+mul-t16 c =
+    let e = accepted (layers (c .before .before)) in
     omega (arith, ports-few _ (sizes (e .before .before .before)) (in-range e))
 
 returns-2 : tie.Need-returns-2
 returns-2 c =
-    let e = c .before .before .before in
+    let drawn = c .before .before in
+    let y = layers drawn in
+    let e = accepted y in
     let needs = e .before .before in
     let ports = ports-are _ (sizes (needs .before)) (in-range e) in
     let entries = needs .needs-of .ensures .0 .entries-are (own-zero e) in
     rw (sym (number (e .before)) ∙ e .if1 .left)
     (λ i. record {
-      given = record { refusal = 0; ports = ports i; layers = start (e .before) .args .r .v; scale = entries i };
-      drawing = c .before .before .drawing-of .ensures i;
+      given = record {
+        refusal = 0;
+        ports = ports i;
+        layers = start (e .before) .args .r .v;
+        scale = entries i;
+        beams = beams-are y i;
+      };
+      drawing = drawing-is drawn i;
     })
 
 pub judge-spec : {M : Type 1} → statement M
@@ -103,6 +148,9 @@ judge-spec =
     (λ c κs. search needs)
     (λ c κs. search needs)
     returns
-    drawing-of-requires
-    mul-t10
+    co-of-requires
+    steps-of-requires
+    layers-of-requires
+    (λ c κs. search needs)
+    mul-t16
     returns-2)

@@ -4,7 +4,7 @@ use mathlib.Core.List.{[], _∷_}
 use Prim.Native.Nat.{ℕ, zero, suc}
 use lib.ListN.{getD}
 use borrow.Author.Needs.{needs}
-use Rattle.settings.specs.declared.Beam.{Beam}
+use Rattle.turn.specs.declared.Beam.{Beam}
 use Rattle.settings.specs.Ranges.{beam}
 use Rattle.rows.proofs.row.Statement.{statement}
 use Rattle.rows.proofs.row.Tie as tie

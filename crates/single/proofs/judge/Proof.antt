@@ -1,5 +1,10 @@
 -- `judge` meets its contract: half-length beams are judged apart, and otherwise the refusals are tried on what is needed.
+use mathlib.Core.Path.{_≡_, refl, ap}
+use mathlib.Core.Bool.{false}
 use borrow.Author.Needs.{needs}
+use Rattle.report.specs.Rules.{InRange}
+use Rattle.report.specs.Beams.{said}
+use Rattle.plan.specs.declared.Lineup.{Lineup}
 use Rattle.single.proofs.Given.{in-range-said}
 use Rattle.single.proofs.Judged.{judged-refused, judged-in-range, judged-accepted}
 use Rattle.single.proofs.judge.Statement.{statement}
@@ -9,23 +14,46 @@ use Rattle.single.proofs.judge.Tie as tie
 abbrev whole : tie.After-admit → tie.Else1
 whole c = c .before .before
 
+abbrev start : tie.After-admit → tie.Start
+start c = whole c .before .before .before
+
 returns-2 : tie.Need-returns-2
 returns-2 c =
     let k = c .before .before in
     judged-refused _ _ _ _ (k .before .needs-of .ensures) (k .admit .ensures) (c .before .if2 .taken) (c .refuse .ensures)
 
-drawing-of-requires : tie.Need-drawing-of-requires
-drawing-of-requires c κs =
+-- where none applies the report is in range, and its beams are whole
+accepted : (c : tie.Else2) → let b = whole (c .before) .before .beams-of .result in let r = start (c .before) .args .r in
+    InRange r × (b ≡ said r 0) × (b .half ≡ false)
+accepted c =
     let k = c .before in
     let h = judged-in-range _ _ _ _ (k .before .needs-of .ensures) (k .admit .ensures) (c .if2 .left) in
     (h, in-range-said _ (whole k .before .beams-of .ensures) h, whole k .if1 .left)
 
+accepted-requires : tie.Need-accepted-requires
+accepted-requires c κs = let (h, e, half) = accepted (c .before .before) in (h, e, c .if3 .taken)
+
 returns-3 : tie.Need-returns-3
 returns-3 c =
+    let two = c .before .before .before in
+    let k = two .before in
+    judged-accepted _ _ _ _ (k .before .needs-of .ensures) (k .admit .ensures) (two .if2 .left)
+    (whole k .before .beams-of .ensures) refl refl (c .accepted .ensures)
+
+drawing-of-requires : tie.Need-drawing-of-requires
+drawing-of-requires c κs =
+    let layers = c .before .before in
+    let (h, e, half) = accepted (layers .before .before .before) in
+    (h, e, half, ap (λ (y : Lineup). y .codes) (layers .layers-of .ensures))
+
+returns-4 : tie.Need-returns-4
+returns-4 c =
     let drawn = c .before in
-    let k = drawn .before .before in
-    judged-accepted _ _ _ _ (k .before .needs-of .ensures) (k .admit .ensures) (drawn .before .if2 .left)
-    (whole k .before .beams-of .ensures) (drawn .drawing-of .ensures) (c .accepted .ensures)
+    let layers = drawn .before .before .before in
+    let e = layers .before .before .before in
+    let k = e .before in
+    judged-accepted _ _ _ _ (k .before .needs-of .ensures) (k .admit .ensures) (e .if2 .left)
+    (whole k .before .beams-of .ensures) (layers .layers-of .ensures) (drawn .drawing-of .ensures) (c .accepted2 .ensures)
 
 pub judge-spec : {M : Type 1} → statement M
 judge-spec =
@@ -38,6 +66,9 @@ judge-spec =
     (λ c κs. search needs)
     (λ c κs. search needs)
     returns-2
+    accepted-requires
+    returns-3
+    (λ c κs. accepted (c .before .before))
     drawing-of-requires
     (λ c κs. search needs)
-    returns-3)
+    returns-4)

@@ -1,46 +1,40 @@
 -- `steps_of` meets its contract: each step is that of the report's beam at its place.
 use native.Mathlib.Omega.{arith}
-use Rattle.single.proofs.Given.{across-some, down-some, small, step-is, no-steps, one-step}
+use Rattle.single.proofs.Given.{across-some, down-some, small, step-is, one-step}
 use borrow.Author.Needs.{needs}
 use Rattle.single.proofs.steps_of.Statement.{statement}
 use Rattle.single.proofs.steps_of.Tie as tie
 
-abbrev start : tie.Else1 → tie.Start
-start c = c .before .before
-
-returns : tie.Need-returns
-returns c = no-steps _ (c .before .before .pre .0) (c .before .before .pre .1) (c .if1 .taken)
-
 step-of-requires : tie.Need-step-of-requires
 step-of-requires c κs =
-    let s = start (c .before .before .before .before) in
+    let s = c .before .before .before .before in
     small _ (s .pre .0) (s .pre .1) 0 (omega arith)
 
-returns-2 : tie.Need-returns-2
-returns-2 c =
-    let s = start (c .before .before .before .before .before .before .before) in
+returns : tie.Need-returns
+returns c =
+    let s = c .before .before .before .before .before .before .before in
     let h = s .pre .0 in
     let e = s .pre .1 in
-    one-step _ h e (c .if2 .taken) (step-is _ h e 0 (omega arith) (c .before .before .step-of .ensures))
+    one-step _ h e (c .if1 .taken) (step-is _ h e 0 (omega arith) (c .before .before .step-of .ensures))
 
 step-of-requires-2 : tie.Need-step-of-requires-2
 step-of-requires-2 c κs =
-    let s = start (c .before .before .before .before .before .before .before) in
+    let s = c .before .before .before .before .before .before .before in
     small _ (s .pre .0) (s .pre .1) 1 (omega arith)
 
 step-of-requires-3 : tie.Need-step-of-requires-3
 step-of-requires-3 c κs =
-    let s = start (c .before .before .before .before .before .before .before .before) in
+    let s = c .before .before .before .before .before .before .before .before in
     small _ (s .pre .0) (s .pre .1) 2 (omega arith)
 
 step-of-requires-4 : tie.Need-step-of-requires-4
 step-of-requires-4 c κs =
-    let s = start (c .before .before .before .before .before .before .before .before .before) in
+    let s = c .before .before .before .before .before .before .before .before .before in
     small _ (s .pre .0) (s .pre .1) 3 (omega arith)
 
-returns-3 : tie.Need-returns-3
-returns-3 c =
-    let s = start (c .before .before .before .before .before .before .before .before .before .before) in
+returns-2 : tie.Need-returns-2
+returns-2 c =
+    let s = c .before .before .before .before .before .before .before .before .before .before in
     let h = s .pre .0 in
     let e = s .pre .1 in
     rw (
@@ -54,15 +48,14 @@ pub steps-of-spec : {M : Type 1} → statement M
 steps-of-spec =
     tie.close
     (tie.spec
-    returns
     (λ c. search needs)
-    (λ c. across-some _ (start (c .before) .pre .0) (start (c .before) .pre .1))
+    (λ c. across-some _ (c .before .pre .0) (c .before .pre .1))
     (λ c. search needs)
-    (λ c. down-some _ (start (c .before .before) .pre .0) (start (c .before .before) .pre .1))
+    (λ c. down-some _ (c .before .before .pre .0) (c .before .before .pre .1))
     (λ c. search needs)
     (λ c. search needs)
     step-of-requires
-    returns-2
+    returns
     (λ c. search needs)
     (λ c. search needs)
     step-of-requires-2
@@ -72,4 +65,4 @@ steps-of-spec =
     (λ c. search needs)
     (λ c. search needs)
     step-of-requires-4
-    returns-3)
+    returns-2)

@@ -9,8 +9,9 @@ returns : tie.Need-returns
 unfolding drawingOf
 returns c =
     let phases = c .before .before in
-    let (h, e, half) = phases .before .before .before .pre in
+    let (h, e, half, codes) = phases .before .before .before .pre in
     rw (
+      codes,
       half-said _ h e half,
       c .before .steps-of .ensures,
       phases .add .ensures,
