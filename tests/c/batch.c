@@ -122,6 +122,11 @@ static int guards_stand(const loan *l) {
     return stand;
 }
 
+// What stands in a record before the call: no answer has such numbers.
+static const aspenflick_record unwritten = {
+    ~0u, ~0u, ~0u, ~0u, {{~0u, ~0u}, {~0u, ~0u}, {~0u, ~0u}, {~0u, ~0u}, {~0u, ~0u}, {~0u, ~0u}, {~0u, ~0u}, {~0u, ~0u}},
+};
+
 static loan mask, buffer;
 static uint8_t mask_as_lent[MOST];
 
@@ -147,7 +152,7 @@ int main(void) {
         for (size_t i = 0; i < buffer.len; i++, fill = (uint8_t)(fill + 37)) buffer.at[i] = fill;
         int16_t *weights = (int16_t *)(void *)buffer.at;
 
-        aspenflick_record record = {0};
+        aspenflick_record record = unwritten;
         paint();
         switch (function) {
         case PHASES: record = aspenflick_phases(r, mask.at, mask.len, ranks, buffer.at, buffer_len); break;
