@@ -171,7 +171,7 @@ static void make_mask(uint8_t *bits, size_t len) {
 // The checks, each counted for itself.
 enum {
     KNOWN, ZEROS, NO_BEAM, AS_LENT, RECORD, BEAMS_BEHIND, IN_RANGE, NOT_BARRED, LEGAL, BEHIND, REPEATED, OUT_GUARDS,
-    MASK_GUARDS, MASK, BASELINE_RECORD, BASELINE_OUT, CHECKS
+    MASK_GUARDS, MASK_AS_LENT, BASELINE_RECORD, BASELINE_OUT, CHECKS
 };
 static const char *const check_names[CHECKS] = {
     [KNOWN] = "the refusal is 0 or one of the codebook's",
@@ -187,7 +187,7 @@ static const char *const check_names[CHECKS] = {
     [REPEATED] = "another fill changes nothing in record and answer",
     [OUT_GUARDS] = "the buffer's guards stand",
     [MASK_GUARDS] = "the mask's guards stand",
-    [MASK] = "the mask is as lent",
+    [MASK_AS_LENT] = "the mask is as lent",
     [BASELINE_RECORD] = "the record is that of the version by hand",
     [BASELINE_OUT] = "the buffer is that of the version by hand",
 };
@@ -215,7 +215,7 @@ static const struct { const char *name; int seen_by; } faults[FAULTS] = {
     [BEHIND_OUT] = {"the byte behind the buffer changed", OUT_GUARDS},
     [BEFORE_MASK] = {"the byte before the mask changed", MASK_GUARDS},
     [BEHIND_MASK] = {"the byte behind the mask changed", MASK_GUARDS},
-    [MASK_BYTE] = {"a byte of the mask changed", MASK},
+    [MASK_BYTE] = {"a byte of the mask changed", MASK_AS_LENT},
     [OTHER_ORDER] = {"11 before 10", BASELINE_RECORD},
     [LEFT_OUT] = {"the second layer's beam left out", BASELINE_RECORD},
     [FIRST_BEAM] = {"the first layer's beam for the second", BASELINE_RECORD},
@@ -411,7 +411,7 @@ static void ask(int function, uint64_t number, int fault) {
                      !memcmp(bytes_again + answer, bytes_again_lent + answer, rest),
         [OUT_GUARDS] = same_guards(&out, &out_lent, o) && same_guards(&out_again, &out_lent, o),
         [MASK_GUARDS] = same_guards(&mask, &mask_lent, m),
-        [MASK] = !memcmp(bits, bits_lent, m.len),
+        [MASK_AS_LENT] = !memcmp(bits, bits_lent, m.len),
         [BASELINE_RECORD] = same_record(&record, &baseline),
         [BASELINE_OUT] = !memcmp(bytes, inner(&out_baseline, o), o.len),
     };

@@ -47,6 +47,9 @@ demanded b order same lawful r mask ranks = record {
             calls.named-bits b lawful r mask ranks room call e
             (λ j k. calls.read-one b lawful r mask ranks room call e _ (lawful .beams-read r range h j k)),
       );
+  named-reduced = λ room call e j k.
+      let s = calls.sound b lawful r mask ranks room call e in
+      rw (calls.named-beam b lawful r mask ranks room call e j k) (s .reduced-l j k, s .reduced-m j k);
   neighbours-not-barred = λ room call e h j k.
       let range = calls.in-range b lawful r mask ranks room call e in
       let x = layerAt (b .plan r) j in

@@ -16,7 +16,7 @@ use Rattle.turn.specs.Exact.{Orthogonal}
 use Rattle.weight.specs.Table.{noWeight, weight, pairs}
 use Rattle.weight.specs.Products.{re, im, power, Within, cross, portPower}
 use Rattle.plan.specs.declared.Record.{Record}
-use Rattle.plan.specs.Plan.{beamsAcross, pairOf, noBeam, matrix, layerIn}
+use Rattle.plan.specs.Plan.{beamsAcross, beamsDown, pairOf, noBeam, matrix, layerIn}
 use Rattle.plan.specs.Masks.{bit, threeBits}
 use Rattle.plan.specs.Answer.{asked, Codebook, refused, planned, recordOf, bufferOf, test, refusal, Called}
 use Rattle.plan.specs.Answer.{PhasesLeft, weightsOf, WeightsLeft}
@@ -73,6 +73,10 @@ module _ {R : Type 0} (b : Codebook R) (InRange : R → Type 0) (order : List �
         → Called b r mask ranks room answer lent given left → given .refusal ≡ 0
         → (given .beams ≡ map pairOf (b .plan r .layers) ++ replicate (8 - v) noBeam)
         × (b .beamed r ≡ true → map (λ x. bit mask (b .width r * x .l + x .m)) (take v (given .beams)) ≡ replicate v 1)
+    -- 2c. The beams that are named are reduced: l is below N1·O1, and m below N2·O2.
+    pub named-reduced : {A : Type 0} (room : ℕ) {answer lent left : List A} {given : Record}
+        → Called b r mask ranks room answer lent given left → given .refusal ≡ 0 → (j : ℕ) → j < v
+        → let x = getD (given .beams) j noBeam in (x .l < beamsAcross (b .plan r)) × (x .m < beamsDown (b .plan r))
     -- 2c. Where beams have half their length, three bits are one for each layer: those of the beam (l,m) that is named for
     -- it and of its neighbours (l - 1, m) and (l + 1, m), the first numbers modulo N1·O1. (The half-length beam of
     -- (i11, i12) has l = 2·i11 and m = i12.)

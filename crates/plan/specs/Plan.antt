@@ -21,9 +21,12 @@ pub record Plan : Type 0 where
   pub block : Setting
   pub layers : List Layer
 
--- N1·O1: how many l there are, of whole beams and of half-length ones
+-- N1·O1: how many l there are, of whole beams and of half-length ones; and N2·O2, how many m
 abbrev pub beamsAcross : Plan → ℕ
 beamsAcross p = p .block .n1 * p .block .o1
+
+abbrev pub beamsDown : Plan → ℕ
+beamsDown p = p .block .n2 * p .block .o2
 
 -- past the last layer
 abbrev pub past : Layer
