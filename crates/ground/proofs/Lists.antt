@@ -51,7 +51,7 @@ unfolding places
 places-nil zero x = refl
 places-nil (suc n) x = ap (λ xs. x ∷ xs) (places-nil n x)
 
--- of what is left nothing but x
+-- a list of x alone
 pub places-same : {A : Type 0} (n m : ℕ) (x : A) → places n x (replicate m x) ≡ replicate n x
 unfolding places
 places-same n zero x = places-nil n x

@@ -30,15 +30,16 @@ codeOf (W² x) = 512 * place x + 256 + 0b10101010
 unfoldable pub codesOf : ℕ → List ℕ
 codesOf v = places 8 0 (map codeOf (getD byRank (v - 1) []))
 
--- the beam of a column, by those of the report
+-- the beam that a name stands for, of two
 abbrev pub chosen : Beam → Beam → Name → Beam
 chosen a b B = a
 chosen a b B′ = b
 
--- the layers of a rank: their codes, and their beams
+-- the beams of a rank's layers, in eight places
 unfoldable pub beamsBy : ℕ → Beam → Beam → List Beam
 beamsBy v a b = places 8 noBeam (map (λ c. chosen a b (beamOf c)) (getD byRank (v - 1) []))
 
+-- the layers of a rank: their codes, and their beams
 abbrev pub lineupOf : ℕ → Beam → Beam → Lineup
 lineupOf v a b = record { codes = codesOf v; beams = beamsBy v a b }
 

@@ -1,15 +1,14 @@
 -- Every lawful codebook answers for the demands.
-use mathlib.Core.Path.{_≡_, refl, sym, ap, _∙_, subst₂}
+use mathlib.Core.Path.{_≡_, refl, sym, _∙_, subst₂}
 use mathlib.Core.List.{List, map-id}
-use Prim.Native.Nat.{ℕ, _+_, _*_}
+use Prim.Native.Nat.{ℕ}
 use native.Mathlib.Omega.{arith}
-use lib.ListN.{replicate}
 use Rattle.ground.proofs.First.{first-of, none-zero}
 use Rattle.ground.proofs.Lists.{all-same, among-at}
 use Rattle.turn.specs.Exact.{Orthogonal}
 use Rattle.turn.proofs.Cancel.{cancels-orthogonal}
 use Rattle.weight.proofs.Rules.{power-lowest, power-highest}
-use Rattle.plan.specs.Plan.{Layer, beamsAcross, past, layerAt}
+use Rattle.plan.specs.Plan.{beamsAcross, layerAt}
 use Rattle.plan.specs.Masks.{bit, threeBits}
 use Rattle.plan.specs.Answer.{Codebook, refusal}
 use Rattle.plan.specs.Lawful.{Lawful}

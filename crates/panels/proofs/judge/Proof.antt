@@ -20,7 +20,6 @@ use Rattle.masks.proofs.Refused.{admitted-refusal}
 use Rattle.multi.specs.Panels.{plan, InRange, indices, panels}
 use Rattle.multi.proofs.InRange.{v-some, v-few, in-range-zero}
 use Rattle.multi.proofs.Said.{own-number, own-sizes, own-other}
-use Rattle.multi.proofs.Columns.{base-is}
 use Rattle.multi.proofs.Lawful.{panels-lawful}
 use Rattle.panels.specs.Drawing.{drawnWith, drawingOf}
 use Rattle.panels.proofs.Asked.{ports-are, ports-few}
