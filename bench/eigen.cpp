@@ -1,5 +1,6 @@
 // The same job in complex floating point with Eigen, the way link-level simulators compute W: beams as vectors of
-// exponentials, Kronecker products, columns by rank, one factor; phases and weights are then read off its entries.
+// exponentials, Kronecker products, columns by rank, one factor, a diagonal of offsets; phases and weights are then read
+// off its entries.
 #include "aspenflick.h"
 #include <cmath>
 #include <complex>
@@ -15,6 +16,8 @@ using Beam = aspenflick_beam;
 
 namespace {
 
+const int turn = 384;
+
 struct Setting { uint32_t n1, n2; };
 
 const std::vector<Setting> settings = {
@@ -27,8 +30,8 @@ uint32_t o2(const Report &r) { return r.n2 > 1 ? 4 : 1; }
 bool modeTwo(const Report &r) { return r.mode == 2 && r.v <= 2 && ports(r) > 2; }
 bool halfLength(const Report &r) { return (r.v == 3 || r.v == 4) && ports(r) >= 16; }
 
-// The offsets (k1,k2) for i13, and the fixed offsets of five and more layers.
-std::vector<Beam> offsets(const Report &r) {
+// The steps (k1,k2) for i13, and the fixed steps of five and more layers.
+std::vector<Beam> steps(const Report &r) {
     uint32_t a = o1(r), b = o2(r);
     switch (r.v) {
     case 2:
@@ -58,7 +61,7 @@ std::vector<Beam> offsets(const Report &r) {
 
 uint32_t i13Values(const Report &r) {
     if (halfLength(r)) return 4;
-    return r.v >= 2 && r.v <= 4 ? offsets(r).size() : 1;
+    return r.v >= 2 && r.v <= 4 ? steps(r).size() : 1;
 }
 
 // B, B', B'' and B''' as far as the rank uses them, reduced, and n.
@@ -73,7 +76,7 @@ std::vector<Beam> beamsOf(const Report &r, uint32_t &n) {
     }
     std::vector<Beam> beams = {{l, m}};
     if (r.v >= 2 && !halfLength(r)) {
-        std::vector<Beam> k = offsets(r);
+        std::vector<Beam> k = steps(r);
         if (r.v <= 4) k = {k[r.i13]};
         for (const Beam &step : k) beams.push_back({l + step.l, m + step.m});
     }
@@ -84,7 +87,8 @@ std::vector<Beam> beamsOf(const Report &r, uint32_t &n) {
 bool bit(const uint8_t *mask, uint32_t k) { return mask[k / 8] >> (k % 8) & 1; }
 
 // The first refusal that applies, or 0.
-uint32_t judge(const Report &r, const uint8_t *mask, size_t maskLength, uint8_t ranks, size_t room) {
+uint32_t judge(const Report &r, const uint8_t *mask, size_t maskLength, uint8_t ranks, const uint16_t *offsets,
+               size_t offsetsLength, size_t room) {
     bool known = false;
     for (const Setting &s : settings) known = known || (s.n1 == r.n1 && s.n2 == r.n2);
     if (!known) return 1;
@@ -108,6 +112,10 @@ uint32_t judge(const Report &r, const uint8_t *mask, size_t maskLength, uint8_t 
             if (!bit(mask, k)) return 10;
             if (halfLength(r) && !(bit(mask, (k + all - down) % all) && bit(mask, k + down))) return 10;
         }
+    }
+    if (offsetsLength != ports(r)) return 13;
+    for (size_t i = 0; i < offsetsLength; i++) {
+        if (offsets[i] >= turn) return 13;
     }
     if (room < r.v * ports(r)) return 11;
     return 0;
@@ -182,32 +190,39 @@ MatrixXcd precoder(const Report &r, aspenflick_record &record) {
     return w / std::sqrt(double(r.v * ports(r)));
 }
 
+// The precoder behind the feed cables: each port is turned by its offset.
+MatrixXcd behindCables(const MatrixXcd &w, const uint16_t *offsets) {
+    VectorXcd cables(w.rows());
+    for (Eigen::Index i = 0; i < w.rows(); i++) cables(i) = std::polar(1.0, 2 * M_PI * offsets[i] / turn);
+    return cables.asDiagonal() * w;
+}
+
 aspenflick_record refused(uint32_t refusal) { return {refusal, 0, 0, 0, {}}; }
 aspenflick_record accepted(const Report &r) { return {0, ports(r), r.v, r.v * ports(r), {}}; }
 
 } // namespace
 
 extern "C" aspenflick_record eigen_phases(aspenflick_report r, const uint8_t *mask, size_t mask_len, uint8_t ranks,
-                                          uint8_t *out, size_t out_len) {
-    uint32_t refusal = judge(r, mask, mask_len, ranks, out_len);
+                                          const uint16_t *offsets, size_t offsets_len, uint16_t *out, size_t out_len) {
+    uint32_t refusal = judge(r, mask, mask_len, ranks, offsets, offsets_len, out_len);
     if (refusal != 0) return refused(refusal);
     aspenflick_record record = accepted(r);
-    MatrixXcd w = precoder(r, record);
+    MatrixXcd w = behindCables(precoder(r, record), offsets);
     for (Eigen::Index j = 0; j < w.cols(); j++) {
         for (Eigen::Index i = 0; i < w.rows(); i++) {
-            long phase = std::lround(std::arg(w(i, j)) * 192 / (2 * M_PI));
-            *out++ = (phase + 192) % 192;
+            long phase = std::lround(std::arg(w(i, j)) * turn / (2 * M_PI));
+            *out++ = (phase + turn) % turn;
         }
     }
     return record;
 }
 
 extern "C" aspenflick_record eigen_weights(aspenflick_report r, const uint8_t *mask, size_t mask_len, uint8_t ranks,
-                                           int16_t *out, size_t out_len) {
-    uint32_t refusal = judge(r, mask, mask_len, ranks, out_len / 2);
+                                           const uint16_t *offsets, size_t offsets_len, int16_t *out, size_t out_len) {
+    uint32_t refusal = judge(r, mask, mask_len, ranks, offsets, offsets_len, out_len / 2);
     if (refusal != 0) return refused(refusal);
     aspenflick_record record = accepted(r);
-    MatrixXcd w = precoder(r, record) * (16384 * std::sqrt(double(r.v * ports(r))));
+    MatrixXcd w = behindCables(precoder(r, record), offsets) * (16384 * std::sqrt(double(r.v * ports(r))));
     for (Eigen::Index j = 0; j < w.cols(); j++) {
         for (Eigen::Index i = 0; i < w.rows(); i++) {
             *out++ = std::lround(w(i, j).real());

@@ -1,8 +1,11 @@
 #!/usr/bin/env python3
-"""Makes the tables of docs/SPEED.md from the lines of `measure count`; exit status 1 if a target is missed.
+"""Makes the tables of docs/SPEED.md from the lines of `measure count` and `measure time`; exit status 1 if a target is
+missed.
 
-table.py SINGLE MULTI CALLS FILE..   so many single-panel and multi-panel reports in range, and so many CALLS in all,
-                                     were compared before; the files are what was counted
+table.py [--quick] SINGLE MULTI CALLS TIMES FILE..
+    so many single-panel and multi-panel reports in range, and so many CALLS in all, were compared before; TIMES is what
+    was timed, an empty file where nothing was, and the other files are what was counted. --quick: the table of ratios
+    and the worst rows alone
 """
 import collections
 import math
@@ -11,13 +14,16 @@ import sys
 FUNCTIONS = ('phases', 'weights')
 NAMES = {'ours': 'ours', 'c': 'C', 'eigen': 'Eigen'}
 
+# The compilers of the C. What they make of it is compared row by row, and the better is C.
+COMPILERS = ('clang', 'gcc')
+
 # What the calls of one row have in common. The single panel, where ng is 1, has a row for both modes: its mode is 0.
 Key = collections.namedtuple('Key', 'ports ng n1 n2 mode v')
 
 # A codebook: what its rows are for, and the versions that ours is compared with, each with the most that the geometric
 # mean and the worst of the ratios may be, or None.
 Codebook = collections.namedtuple('Codebook', 'name rows targets')
-SINGLE = Codebook('single-panel', 'settings and ranks', {'c': (1.10, 1.30), 'eigen': (None, 0.20)})
+SINGLE = Codebook('single-panel', 'settings and ranks', {'c': (1.00, 1.25), 'eigen': (None, 0.20)})
 MULTI = Codebook('multi-panel', 'settings, modes and ranks', {'c': (1.00, 1.25)})
 
 
@@ -37,6 +43,25 @@ def read(paths):
             own = int(instructions) - empty[function] + 1
             counts.setdefault((at, function, version), []).append(own)
     return {key: sum(of) / len(of) for key, of in counts.items()}, {key: len(of) for key, of in counts.items()}
+
+
+def better(mean, calls_of):
+    """Puts in what C takes and of how many calls, and gives by which compiler, by key and function."""
+    by = {}
+    for at, f in {(at, f) for at, f, _ in mean}:
+        by[at, f] = min(COMPILERS, key=lambda compiler: mean[at, f, compiler])
+        mean[at, f, 'c'], calls_of[at, f, 'c'] = (of[at, f, by[at, f]] for of in (mean, calls_of))
+    return by
+
+
+def read_times(path):
+    """Our time by that of C, whichever compiler's is the better, by key and function."""
+    times = {}
+    for line in open(path):
+        *numbers, function, clang, gcc = line.split()
+        ng, n1, n2, mode, v = map(int, numbers)
+        times[Key(2 * ng * n1 * n2, ng, n1, n2, mode, v), function] = max(float(clang), float(gcc))
+    return times
 
 
 def geometric(numbers):
@@ -64,8 +89,8 @@ def row(cells):
     return '| ' + ' | '.join(cells) + ' |'
 
 
-def ratios(mean, codebook, keys):
-    """Prints the ratios of ours to each other version, and gives whether their targets are met."""
+def ratios(name, of, mean_most, worst_most):
+    """Prints the ratios, for each function by key, and gives whether the targets are met, if there are any."""
     met = True
 
     def judged(value, most):
@@ -75,15 +100,47 @@ def ratios(mean, codebook, keys):
         met = met and value <= most
         return f'{value:.3f}', f'{most:.2f}', 'met' if value <= most else '**missed**'
 
-    for other, (mean_most, worst_most) in codebook.targets.items():
-        of = [{at: mean[at, f, 'ours'] / mean[at, f, other] for at in keys} for f in FUNCTIONS]
-        means, every = [geometric(x.values()) for x in of], [y for x in of for y in x.values()]
-        worst = [max(x, key=x.get) for x in of]
-        name = f'{codebook.name}, ours to {NAMES[other]}'
-        print(row([name + ', geometric mean', *(f'{x:.3f}' for x in means), *judged(geometric(every), mean_most)]))
-        print(row([name + ', worst', *(f'{x[at]:.3f} at {place(at)}' for x, at in zip(of, worst)),
-                   *judged(max(every), worst_most)]))
+    means, every = [geometric(x.values()) for x in of], [y for x in of for y in x.values()]
+    worst = [max(x, key=x.get) for x in of]
+    print(row([name + ', geometric mean', *(f'{x:.3f}' for x in means), *judged(geometric(every), mean_most)]))
+    print(row([name + ', worst', *(f'{x[at]:.3f} at {place(at)}' for x, at in zip(of, worst)),
+               *judged(max(every), worst_most)]))
     return met
+
+
+def summary(mean, times, books):
+    """Prints the table of all ratios and gives whether the targets are met."""
+    print(row(['Ratio', 'Phases', 'Weights', 'Both', 'Target', '']))
+    print(row(['---', '--:', '--:', '--:', '--:', '---']))
+    met = []
+    for codebook, keys in books:
+        for other, most in codebook.targets.items():
+            if (keys[0], FUNCTIONS[0], other) in mean:
+                of = [{at: mean[at, f, 'ours'] / mean[at, f, other] for at in keys} for f in FUNCTIONS]
+                met.append(ratios(f'{codebook.name}, instructions, ours to {NAMES[other]}', of, *most))
+    for codebook, keys in books if times else ():
+        of = [{at: times[at, f] for at in keys} for f in FUNCTIONS]
+        ratios(f'{codebook.name}, time, ours to C', of, None, None)
+    print()
+    if not times:
+        print('Time is measured on x86-64 alone, and not here.')
+        print()
+    return all(met)
+
+
+def worst_rows(mean, by, times, books, most):
+    """Prints for each function the rows in which ours takes most beside C."""
+    for codebook, keys in books:
+        for f in FUNCTIONS:
+            print(f'Worst rows of {codebook.name} {f}:')
+            print()
+            print(row(['Row', 'Ours', 'C', 'Compiler', 'to C', 'Time to C']))
+            print(row(['---', '--:', '--:', '---', '--:', '--:']))
+            for at in sorted(keys, key=lambda at: mean[at, f, 'c'] / mean[at, f, 'ours'])[:most]:
+                ours, theirs = mean[at, f, 'ours'], mean[at, f, 'c']
+                print(row([place(at), f'{ours:.0f}', f'{theirs:.0f}', by[at, f], f'{ours / theirs:.3f}',
+                           f'{times[at, f]:.3f}' if times else '']))
+            print()
 
 
 def growth(mean, what, letter, keys, part):
@@ -124,14 +181,19 @@ def instructions(mean, codebook, keys):
 
 
 def main():
-    if sys.argv[1:] in (['--help'], ['-h']):
+    words = sys.argv[1:]
+    if words in (['--help'], ['-h']):
         print(__doc__.strip())
         return 0
-    if len(sys.argv) < 5:
-        print('table: it takes SINGLE MULTI CALLS FILE.. or --help', file=sys.stderr)
+    quick = words[:1] == ['--quick']
+    words = words[quick:]
+    if len(words) < 5:
+        print('table: it takes [--quick] SINGLE MULTI CALLS TIMES FILE.. or --help', file=sys.stderr)
         return 2
-    of_single, of_multi, calls = map(int, sys.argv[1:4])
-    mean, calls_of = read(sys.argv[4:])
+    of_single, of_multi, calls = map(int, words[:3])
+    times = read_times(words[3])
+    mean, calls_of = read(words[4:])
+    by = better(mean, calls_of)
     keys = sorted({at for at, *_ in mean})
     books = ((SINGLE, [at for at in keys if at.ng == 1]), (MULTI, [at for at in keys if at.ng > 1]))
 
@@ -141,13 +203,16 @@ def main():
         counts = {version: sum(calls_of.get((at, 'phases', version), 0) for at in of)
                   for version in ('ours', *codebook.targets)}
         print(f'Measured {codebook.name} calls of each function: '
-              + ', '.join(f'{n:,} of {NAMES[version]}' for version, n in counts.items())
+              + ', '.join(f'{n:,} of {NAMES[version]}' for version, n in counts.items() if n)
               + f', for {len(of)} {codebook.rows}.')
+    won = [sum(compiler == c for c in by.values()) for compiler in COMPILERS]
+    print(f'C is compiled by the kit\'s clang and by gcc, with -O3; for each function in each row the better of the two is '
+          f'C: in instructions clang {won[0]} times and gcc {won[1]} times.')
     print()
-    print(row(['Ratio of instructions', 'Phases', 'Weights', 'Both', 'Target', '']))
-    print(row(['---', '--:', '--:', '--:', '--:', '---']))
-    met = [ratios(mean, codebook, of) for codebook, of in books]
-    print()
+    met = summary(mean, times, books)
+    if quick:
+        worst_rows(mean, by, times, books, 5)
+        return 0 if met else 1
     growth(mean, 'the ports, one panel, one layer and N2 = 1', 'P',
            [at for at in keys if (at.ng, at.n2, at.v) == (1, 1, 1)], 'ports')
     growth(mean, 'the layers, (16,1)', 'v', [at for at in keys if at.n1 == 16], 'v')
@@ -155,7 +220,7 @@ def main():
     instructions(mean, *books[0])
     print()
     instructions(mean, *books[1])
-    return 0 if all(met) else 1
+    return 0 if met else 1
 
 
 sys.exit(main())

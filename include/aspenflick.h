@@ -1,12 +1,12 @@
 // Aspenflick for C: the precoder of a 5G NR Type I PMI report of TS 38.214, single-panel (5.2.2.2.1) or multi-panel
 // (5.2.2.2.2), or its refusal; and a reader of logs of such reports.
 //
-// A call answers any numbers, masks and lengths. It allocates nothing, takes less than 2,048 bytes of stack (measured,
-// not proved) and keeps no state, so several threads may call at once, each with an `out` of its own. A struct goes by
-// value. A slice is a pointer to entries and then their number: the pointer must not be null and must be aligned for
-// them, also where there are none, and `out` must not overlap `mask`. Nothing else of the caller's is read or written.
-// The answer to a report is determined by the report, both masks, the length of `out`, which function is called, and the
-// version of the library: whoever files answers keeps these.
+// A call answers any numbers, masks, offsets and lengths. It allocates nothing, takes less than 2,048 bytes of stack
+// (measured, not proved) and keeps no state, so several threads may call at once, each with an `out` of its own. A struct
+// goes by value. A slice is a pointer to entries and then their number: the pointer must not be null and must be aligned
+// for them, also where there are none, and `out` must not overlap `mask` or `offsets`. Nothing else of the caller's is read
+// or written. The answer to a report is determined by the report, both masks, the offsets, the length of `out`, which
+// function is called, and the version of the library: whoever files answers keeps these.
 //
 // One panel: the settings (n1,n2) are (1,1), called two ports, (2,1), (2,2), (4,1), (3,2), (6,1), (4,2), (8,1), (4,3),
 // (6,2), (12,1), (4,4), (8,2) and (16,1). P is the number of ports, 2*n1*n2. M stands for the beams of the second
@@ -54,6 +54,9 @@
 // several panels, which all have one beam, that is named once. Places from v on are (0,0), which is a beam too: they say
 // nothing. Two ports have no beams, and all places are (0,0).
 //
+// Phases are whole numbers of 1/384 turns, 0 to 383. `offsets` has one for each of the P ports, in the order of the ports:
+// it is added to the port's phase in every layer, modulo a turn. Zeros leave the precoder as the standard prints it.
+//
 // Made from the proved crates by tools/header; not edited by hand.
 #ifndef ASPENFLICK_H
 #define ASPENFLICK_H
@@ -63,7 +66,7 @@
 
 // The version of the library. A struct, a parameter or a constant that changes makes the first number another, and every
 // function is linked by a name that ends with it: a program compiled with a header of another major number does not link.
-#define ASPENFLICK_VERSION_MAJOR 2
+#define ASPENFLICK_VERSION_MAJOR 3
 #define ASPENFLICK_VERSION_MINOR 0
 #define ASPENFLICK_VERSION_PATCH 0
 
@@ -88,7 +91,8 @@
 #define ASPENFLICK_I14_RANGE 12       // a number of i14 is out of range
 #define ASPENFLICK_I2_RANGE 9         // i2, or a number of it, is out of range
 #define ASPENFLICK_BEAM_BARRED 10     // a bit of `mask` that the report reads is zero
-#define ASPENFLICK_NO_ROOM 11         // `out` is too short: v*P bytes are needed, or 2*v*P numbers for weights
+#define ASPENFLICK_OFFSETS_UNFIT 13   // `offsets` are not exactly P, or one of them is above 383
+#define ASPENFLICK_NO_ROOM 11         // `out` is too short: v*P numbers are needed, or 2*v*P for weights
 
 // What a step of a log is.
 #define ASPENFLICK_LOG_REPORT 0       // a report
@@ -104,13 +108,13 @@
 #define ASPENFLICK_VERSION (10000 * ASPENFLICK_VERSION_MAJOR + 100 * ASPENFLICK_VERSION_MINOR + ASPENFLICK_VERSION_PATCH)
 
 // The names by which the functions are linked.
-#define aspenflick_version aspenflick_version_2
-#define aspenflick_mask_bytes aspenflick_mask_bytes_2
-#define aspenflick_phases aspenflick_phases_2
-#define aspenflick_weights aspenflick_weights_2
-#define aspenflick_panel_phases aspenflick_panel_phases_2
-#define aspenflick_panel_weights aspenflick_panel_weights_2
-#define aspenflick_log_next aspenflick_log_next_2
+#define aspenflick_version aspenflick_version_3
+#define aspenflick_mask_bytes aspenflick_mask_bytes_3
+#define aspenflick_phases aspenflick_phases_3
+#define aspenflick_weights aspenflick_weights_3
+#define aspenflick_panel_phases aspenflick_panel_phases_3
+#define aspenflick_panel_weights aspenflick_panel_weights_3
+#define aspenflick_log_next aspenflick_log_next_3
 
 #ifdef __cplusplus
 extern "C" {
@@ -144,29 +148,30 @@ uint32_t aspenflick_version(void);
 // How many bytes the beam mask of a setting has; 0 for a pair that is no setting. Panels have the mask of one of them.
 uint32_t aspenflick_mask_bytes(uint32_t n1, uint32_t n2);
 
-// Writes the phases of a report's precoder, each 0 to 191 in 1/192 turns: layer after layer, each of P entries, the first
-// polarisation first. Entries past the v*P of the answer stay as lent. (2,1) with mode 1, v = 1, i11 = 1, i2 = 1 and the
-// rest 0 gives 0 24 48 72 and names the beam (1,0).
-aspenflick_record aspenflick_phases(aspenflick_report r, const uint8_t *mask, size_t mask_len, uint8_t ranks, uint8_t *out,
-                                    size_t out_len);
+// Writes the phases of a report's precoder: layer after layer, each of P entries, the first polarisation first, to each
+// the offset of its port added. `out_len` counts 16-bit numbers, and so does `offsets_len`. Entries past the v*P of the
+// answer stay as lent. (2,1) with mode 1, v = 1, i11 = 1, i2 = 1 and the rest 0 gives 0 48 96 144 with the offsets
+// 0 0 0 0, and 1 50 99 148 with 1 2 3 4; it names the beam (1,0).
+aspenflick_record aspenflick_phases(aspenflick_report r, const uint8_t *mask, size_t mask_len, uint8_t ranks,
+                                    const uint16_t *offsets, size_t offsets_len, uint16_t *out, size_t out_len);
 
 // Writes the weights of a report's precoder: for each entry that `aspenflick_phases` writes, x and then y, the whole
 // numbers nearest to 16384 times the cosine and the sine of its phase; a true precoder is divided by 16384 too. `out_len`
-// counts 16-bit numbers. Numbers past the 2*v*P of the answer stay as lent. The report above gives 16384 0 11585 11585
-// 0 16384 -11585 11585.
+// counts 16-bit numbers. Numbers past the 2*v*P of the answer stay as lent. The report above with
+// the offsets 0 0 0 0 gives 16384 0 11585 11585 0 16384 -11585 11585.
 aspenflick_record aspenflick_weights(aspenflick_report r, const uint8_t *mask, size_t mask_len, uint8_t ranks,
-                                     int16_t *out, size_t out_len);
+                                     const uint16_t *offsets, size_t offsets_len, int16_t *out, size_t out_len);
 
 // Writes the phases of a multi-panel report's precoder as `aspenflick_phases` does: layer after layer, each of P entries,
 // panel by panel, the first polarisation of a panel first. (2,2,1) with mode 1, v = 1, i11 = 1, i14 = 1 0 0, i2 = 2 0 0
-// and the rest 0 gives 0 24 96 120 48 72 144 168.
+// and the rest 0 gives 0 48 192 240 96 144 288 336 with the offsets 0 0 0 0 0 0 0 0.
 aspenflick_record aspenflick_panel_phases(aspenflick_panel_report r, const uint8_t *mask, size_t mask_len, uint8_t ranks,
-                                          uint8_t *out, size_t out_len);
+                                          const uint16_t *offsets, size_t offsets_len, uint16_t *out, size_t out_len);
 
 // Writes the weights of a multi-panel report's precoder: for each entry that `aspenflick_panel_phases` writes, x and then y,
 // as `aspenflick_weights` does.
 aspenflick_record aspenflick_panel_weights(aspenflick_panel_report r, const uint8_t *mask, size_t mask_len, uint8_t ranks,
-                                           int16_t *out, size_t out_len);
+                                           const uint16_t *offsets, size_t offsets_len, int16_t *out, size_t out_len);
 
 // Reads one step of a log of reports: what stands at the place `from`, which is the front, 0, or the `next` of the step
 // before. A log is a plain run of numbers, eight to a report: n1, n2, mode, v, i11, i12, i13, i2. A number is written in

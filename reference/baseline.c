@@ -2,23 +2,24 @@
 // calls are compared with.
 #include "baseline.h"
 
-enum { TURN = 192, HALF = TURN / 2, QUARTER = TURN / 4, EIGHTH = TURN / 8 };
-enum { MOST_N1 = 16, MOST_N2 = 4, MOST_V = 8, MOST_ENTRIES = 256 };
+enum { TURN = 384, HALF = TURN / 2, QUARTER = TURN / 4, EIGHTH = TURN / 8 };
+enum { MOST_N1 = 16, MOST_N2 = 4, MOST_V = 8, MOST_PORTS = 32, MOST_ENTRIES = MOST_V * MOST_PORTS };
 enum { MOST_PANELS = 4, MOST_PANEL_N1 = 8, MOST_PANEL_N2 = 2, MOST_PANEL_V = 4, MOST_PANEL_ENTRIES = 128 };
 
 typedef struct { uint8_t l, m; } beam;
 
-// An accepted report: rows by columns of its beams, its blocks of ports, f and t, and B, B', B'', B''', reduced. A
-// half-length beam stands twice, and two ports have (0,0).
+// An accepted report: its ports, f, and B, B', B'', B''', reduced; for a half-length beam, which stands twice, what is
+// added in the second half of each polarisation. Two ports have (0,0).
 typedef struct {
-    uint8_t ports, rows, columns, blocks, f, t;
+    uint8_t ports, half_length;
+    uint16_t f, t;
     beam beams[4];
 } plan;
 
-// An accepted multi-panel report: f, what turns the two polarisations of the first panel into those of each other panel,
-// and B and B', reduced.
+// An accepted multi-panel report: its ports, what is added in each polarisation of each panel, and B and B', reduced.
 typedef struct {
-    uint8_t ports, f, turns[MOST_PANELS - 1][2];
+    uint8_t ports;
+    uint16_t turns[2 * MOST_PANELS];
     beam beams[2];
 } panel_plan;
 
@@ -38,7 +39,7 @@ static const uint8_t panel_ports_of[MOST_PANELS / 2 + 1][MOST_PANEL_N2 + 1][MOST
 
 // The phase for one step of l or m by N1 or N2. In a direction of one antenna l or m is 0.
 static const uint8_t step_of[MOST_N1 + 1] = {
-    [2] = 24, [3] = 16, [4] = 12, [6] = 8, [8] = 6, [12] = 4, [16] = 3,
+    [2] = TURN / 8, [3] = TURN / 12, [4] = TURN / 16, [6] = TURN / 24, [8] = TURN / 32, [12] = TURN / 48, [16] = TURN / 64,
 };
 
 // The rows of k in steps of (O1,O2): for N1 > N2 > 1, for N1 = N2, and for N2 = 1.
@@ -69,44 +70,68 @@ static const column columns_of[MOST_V + 1][MOST_V] = {
     [8] = {{0, 1, 0}, {0, 1, HALF}, {1, 1, 0}, {1, 1, HALF}, {2, 0, 0}, {2, 0, HALF}, {3, 0, 0}, {3, 0, HALF}},
 };
 
-// 16384 times cosine and sine of each phase, to the nearest whole number.
-static const int16_t weight_of[TURN][2] = {
-    {16384, 0}, {16375, 536}, {16349, 1072}, {16305, 1606}, {16244, 2139}, {16165, 2669}, {16069, 3196}, {15956, 3720},
-    {15826, 4240}, {15679, 4756}, {15515, 5266}, {15334, 5771}, {15137, 6270}, {14924, 6762}, {14694, 7246},
-    {14449, 7723}, {14189, 8192}, {13913, 8652}, {13623, 9102}, {13318, 9543}, {12998, 9974}, {12665, 10394},
-    {12318, 10803}, {11958, 11200}, {11585, 11585}, {11200, 11958}, {10803, 12318}, {10394, 12665}, {9974, 12998},
-    {9543, 13318}, {9102, 13623}, {8652, 13913}, {8192, 14189}, {7723, 14449}, {7246, 14694}, {6762, 14924},
-    {6270, 15137}, {5771, 15334}, {5266, 15515}, {4756, 15679}, {4240, 15826}, {3720, 15956}, {3196, 16069},
-    {2669, 16165}, {2139, 16244}, {1606, 16305}, {1072, 16349}, {536, 16375}, {0, 16384}, {-536, 16375}, {-1072, 16349},
-    {-1606, 16305}, {-2139, 16244}, {-2669, 16165}, {-3196, 16069}, {-3720, 15956}, {-4240, 15826}, {-4756, 15679},
-    {-5266, 15515}, {-5771, 15334}, {-6270, 15137}, {-6762, 14924}, {-7246, 14694}, {-7723, 14449}, {-8192, 14189},
-    {-8652, 13913}, {-9102, 13623}, {-9543, 13318}, {-9974, 12998}, {-10394, 12665}, {-10803, 12318}, {-11200, 11958},
-    {-11585, 11585}, {-11958, 11200}, {-12318, 10803}, {-12665, 10394}, {-12998, 9974}, {-13318, 9543}, {-13623, 9102},
-    {-13913, 8652}, {-14189, 8192}, {-14449, 7723}, {-14694, 7246}, {-14924, 6762}, {-15137, 6270}, {-15334, 5771},
-    {-15515, 5266}, {-15679, 4756}, {-15826, 4240}, {-15956, 3720}, {-16069, 3196}, {-16165, 2669}, {-16244, 2139},
-    {-16305, 1606}, {-16349, 1072}, {-16375, 536}, {-16384, 0}, {-16375, -536}, {-16349, -1072}, {-16305, -1606},
-    {-16244, -2139}, {-16165, -2669}, {-16069, -3196}, {-15956, -3720}, {-15826, -4240}, {-15679, -4756},
-    {-15515, -5266}, {-15334, -5771}, {-15137, -6270}, {-14924, -6762}, {-14694, -7246}, {-14449, -7723},
-    {-14189, -8192}, {-13913, -8652}, {-13623, -9102}, {-13318, -9543}, {-12998, -9974}, {-12665, -10394},
-    {-12318, -10803}, {-11958, -11200}, {-11585, -11585}, {-11200, -11958}, {-10803, -12318}, {-10394, -12665},
-    {-9974, -12998}, {-9543, -13318}, {-9102, -13623}, {-8652, -13913}, {-8192, -14189}, {-7723, -14449},
-    {-7246, -14694}, {-6762, -14924}, {-6270, -15137}, {-5771, -15334}, {-5266, -15515}, {-4756, -15679},
-    {-4240, -15826}, {-3720, -15956}, {-3196, -16069}, {-2669, -16165}, {-2139, -16244}, {-1606, -16305},
-    {-1072, -16349}, {-536, -16375}, {0, -16384}, {536, -16375}, {1072, -16349}, {1606, -16305}, {2139, -16244},
-    {2669, -16165}, {3196, -16069}, {3720, -15956}, {4240, -15826}, {4756, -15679}, {5266, -15515}, {5771, -15334},
-    {6270, -15137}, {6762, -14924}, {7246, -14694}, {7723, -14449}, {8192, -14189}, {8652, -13913}, {9102, -13623},
-    {9543, -13318}, {9974, -12998}, {10394, -12665}, {10803, -12318}, {11200, -11958}, {11585, -11585}, {11958, -11200},
-    {12318, -10803}, {12665, -10394}, {12998, -9974}, {13318, -9543}, {13623, -9102}, {13913, -8652}, {14189, -8192},
-    {14449, -7723}, {14694, -7246}, {14924, -6762}, {15137, -6270}, {15334, -5771}, {15515, -5266}, {15679, -4756},
-    {15826, -4240}, {15956, -3720}, {16069, -3196}, {16165, -2669}, {16244, -2139}, {16305, -1606}, {16349, -1072},
-    {16375, -536},
-};
+typedef struct { int16_t x, y; } weight;
 
-// The sum of two phases, both below a turn.
-static inline uint8_t turned(uint8_t phase, uint8_t by) {
-    uint8_t rest = TURN - by;
-    return phase < rest ? phase + by : phase - rest;
-}
+// 16384 times cosine and sine of each phase, to the nearest whole number.
+static const weight weight_of[TURN] = {
+    {16384, 0}, {16382, 268}, {16375, 536}, {16364, 804}, {16349, 1072}, {16329, 1339}, {16305, 1606}, {16277, 1872},
+    {16244, 2139}, {16207, 2404}, {16165, 2669}, {16119, 2933}, {16069, 3196}, {16015, 3459}, {15956, 3720},
+    {15893, 3981}, {15826, 4240}, {15754, 4499}, {15679, 4756}, {15599, 5012}, {15515, 5266}, {15426, 5520},
+    {15334, 5771}, {15237, 6021}, {15137, 6270}, {15032, 6517}, {14924, 6762}, {14811, 7005}, {14694, 7246},
+    {14574, 7486}, {14449, 7723}, {14321, 7959}, {14189, 8192}, {14053, 8423}, {13913, 8652}, {13770, 8878},
+    {13623, 9102}, {13472, 9324}, {13318, 9543}, {13160, 9760}, {12998, 9974}, {12833, 10185}, {12665, 10394},
+    {12493, 10600}, {12318, 10803}, {12140, 11003}, {11958, 11200}, {11773, 11394}, {11585, 11585}, {11394, 11773},
+    {11200, 11958}, {11003, 12140}, {10803, 12318}, {10600, 12493}, {10394, 12665}, {10185, 12833}, {9974, 12998},
+    {9760, 13160}, {9543, 13318}, {9324, 13472}, {9102, 13623}, {8878, 13770}, {8652, 13913}, {8423, 14053},
+    {8192, 14189}, {7959, 14321}, {7723, 14449}, {7486, 14574}, {7246, 14694}, {7005, 14811}, {6762, 14924},
+    {6517, 15032}, {6270, 15137}, {6021, 15237}, {5771, 15334}, {5520, 15426}, {5266, 15515}, {5012, 15599},
+    {4756, 15679}, {4499, 15754}, {4240, 15826}, {3981, 15893}, {3720, 15956}, {3459, 16015}, {3196, 16069},
+    {2933, 16119}, {2669, 16165}, {2404, 16207}, {2139, 16244}, {1872, 16277}, {1606, 16305}, {1339, 16329},
+    {1072, 16349}, {804, 16364}, {536, 16375}, {268, 16382}, {0, 16384}, {-268, 16382}, {-536, 16375}, {-804, 16364},
+    {-1072, 16349}, {-1339, 16329}, {-1606, 16305}, {-1872, 16277}, {-2139, 16244}, {-2404, 16207}, {-2669, 16165},
+    {-2933, 16119}, {-3196, 16069}, {-3459, 16015}, {-3720, 15956}, {-3981, 15893}, {-4240, 15826}, {-4499, 15754},
+    {-4756, 15679}, {-5012, 15599}, {-5266, 15515}, {-5520, 15426}, {-5771, 15334}, {-6021, 15237}, {-6270, 15137},
+    {-6517, 15032}, {-6762, 14924}, {-7005, 14811}, {-7246, 14694}, {-7486, 14574}, {-7723, 14449}, {-7959, 14321},
+    {-8192, 14189}, {-8423, 14053}, {-8652, 13913}, {-8878, 13770}, {-9102, 13623}, {-9324, 13472}, {-9543, 13318},
+    {-9760, 13160}, {-9974, 12998}, {-10185, 12833}, {-10394, 12665}, {-10600, 12493}, {-10803, 12318}, {-11003, 12140},
+    {-11200, 11958}, {-11394, 11773}, {-11585, 11585}, {-11773, 11394}, {-11958, 11200}, {-12140, 11003},
+    {-12318, 10803}, {-12493, 10600}, {-12665, 10394}, {-12833, 10185}, {-12998, 9974}, {-13160, 9760}, {-13318, 9543},
+    {-13472, 9324}, {-13623, 9102}, {-13770, 8878}, {-13913, 8652}, {-14053, 8423}, {-14189, 8192}, {-14321, 7959},
+    {-14449, 7723}, {-14574, 7486}, {-14694, 7246}, {-14811, 7005}, {-14924, 6762}, {-15032, 6517}, {-15137, 6270},
+    {-15237, 6021}, {-15334, 5771}, {-15426, 5520}, {-15515, 5266}, {-15599, 5012}, {-15679, 4756}, {-15754, 4499},
+    {-15826, 4240}, {-15893, 3981}, {-15956, 3720}, {-16015, 3459}, {-16069, 3196}, {-16119, 2933}, {-16165, 2669},
+    {-16207, 2404}, {-16244, 2139}, {-16277, 1872}, {-16305, 1606}, {-16329, 1339}, {-16349, 1072}, {-16364, 804},
+    {-16375, 536}, {-16382, 268}, {-16384, 0}, {-16382, -268}, {-16375, -536}, {-16364, -804}, {-16349, -1072},
+    {-16329, -1339}, {-16305, -1606}, {-16277, -1872}, {-16244, -2139}, {-16207, -2404}, {-16165, -2669},
+    {-16119, -2933}, {-16069, -3196}, {-16015, -3459}, {-15956, -3720}, {-15893, -3981}, {-15826, -4240},
+    {-15754, -4499}, {-15679, -4756}, {-15599, -5012}, {-15515, -5266}, {-15426, -5520}, {-15334, -5771},
+    {-15237, -6021}, {-15137, -6270}, {-15032, -6517}, {-14924, -6762}, {-14811, -7005}, {-14694, -7246},
+    {-14574, -7486}, {-14449, -7723}, {-14321, -7959}, {-14189, -8192}, {-14053, -8423}, {-13913, -8652},
+    {-13770, -8878}, {-13623, -9102}, {-13472, -9324}, {-13318, -9543}, {-13160, -9760}, {-12998, -9974},
+    {-12833, -10185}, {-12665, -10394}, {-12493, -10600}, {-12318, -10803}, {-12140, -11003}, {-11958, -11200},
+    {-11773, -11394}, {-11585, -11585}, {-11394, -11773}, {-11200, -11958}, {-11003, -12140}, {-10803, -12318},
+    {-10600, -12493}, {-10394, -12665}, {-10185, -12833}, {-9974, -12998}, {-9760, -13160}, {-9543, -13318},
+    {-9324, -13472}, {-9102, -13623}, {-8878, -13770}, {-8652, -13913}, {-8423, -14053}, {-8192, -14189},
+    {-7959, -14321}, {-7723, -14449}, {-7486, -14574}, {-7246, -14694}, {-7005, -14811}, {-6762, -14924},
+    {-6517, -15032}, {-6270, -15137}, {-6021, -15237}, {-5771, -15334}, {-5520, -15426}, {-5266, -15515},
+    {-5012, -15599}, {-4756, -15679}, {-4499, -15754}, {-4240, -15826}, {-3981, -15893}, {-3720, -15956},
+    {-3459, -16015}, {-3196, -16069}, {-2933, -16119}, {-2669, -16165}, {-2404, -16207}, {-2139, -16244},
+    {-1872, -16277}, {-1606, -16305}, {-1339, -16329}, {-1072, -16349}, {-804, -16364}, {-536, -16375}, {-268, -16382},
+    {0, -16384}, {268, -16382}, {536, -16375}, {804, -16364}, {1072, -16349}, {1339, -16329}, {1606, -16305},
+    {1872, -16277}, {2139, -16244}, {2404, -16207}, {2669, -16165}, {2933, -16119}, {3196, -16069}, {3459, -16015},
+    {3720, -15956}, {3981, -15893}, {4240, -15826}, {4499, -15754}, {4756, -15679}, {5012, -15599}, {5266, -15515},
+    {5520, -15426}, {5771, -15334}, {6021, -15237}, {6270, -15137}, {6517, -15032}, {6762, -14924}, {7005, -14811},
+    {7246, -14694}, {7486, -14574}, {7723, -14449}, {7959, -14321}, {8192, -14189}, {8423, -14053}, {8652, -13913},
+    {8878, -13770}, {9102, -13623}, {9324, -13472}, {9543, -13318}, {9760, -13160}, {9974, -12998}, {10185, -12833},
+    {10394, -12665}, {10600, -12493}, {10803, -12318}, {11003, -12140}, {11200, -11958}, {11394, -11773},
+    {11585, -11585}, {11773, -11394}, {11958, -11200}, {12140, -11003}, {12318, -10803}, {12493, -10600},
+    {12665, -10394}, {12833, -10185}, {12998, -9974}, {13160, -9760}, {13318, -9543}, {13472, -9324}, {13623, -9102},
+    {13770, -8878}, {13913, -8652}, {14053, -8423}, {14189, -8192}, {14321, -7959}, {14449, -7723}, {14574, -7486},
+    {14694, -7246}, {14811, -7005}, {14924, -6762}, {15032, -6517}, {15137, -6270}, {15237, -6021}, {15334, -5771},
+    {15426, -5520}, {15515, -5266}, {15599, -5012}, {15679, -4756}, {15754, -4499}, {15826, -4240}, {15893, -3981},
+    {15956, -3720}, {16015, -3459}, {16069, -3196}, {16119, -2933}, {16165, -2669}, {16207, -2404}, {16244, -2139},
+    {16277, -1872}, {16305, -1606}, {16329, -1339}, {16349, -1072}, {16364, -804}, {16375, -536}, {16382, -268},
+};
 
 static inline int mask_bit(const uint8_t *mask, unsigned k) { return mask[k / 8] >> k % 8 & 1; }
 
@@ -135,9 +160,17 @@ static inline beam reduced(unsigned l, unsigned m, unsigned across, unsigned dow
     return (beam){l < across ? l : l - across, m < down ? m : m - down};
 }
 
+// Whether there is an offset for each port, and none is a turn or more.
+static int offsets_fit(const uint16_t *offsets, size_t offsets_len, size_t ports) {
+    if (offsets_len != ports) return 0;
+    uint16_t unfit = 0;
+    for (size_t i = 0; i < ports; i++) unfit |= offsets[i] >= TURN;
+    return !unfit;
+}
+
 // Gives the first refusal that applies, or 0 and the plan.
-static uint32_t judge(const aspenflick_report *r, const uint8_t *mask, size_t mask_len, uint8_t ranks, size_t room,
-                      plan *p) {
+static uint32_t judge(const aspenflick_report *r, const uint8_t *mask, size_t mask_len, uint8_t ranks,
+                      const uint16_t *offsets, size_t offsets_len, size_t room, plan *p) {
     if (r->n1 > MOST_N1 || r->n2 > MOST_N2) return 1;
     unsigned ports = ports_of[r->n2][r->n1];
     if (ports == 0) return 1;
@@ -182,20 +215,20 @@ static uint32_t judge(const aspenflick_report *r, const uint8_t *mask, size_t ma
         if (!mask_bit(mask, down * before + m) || !mask_bit(mask, down * (l + 1) + m)) return 10;
         p->beams[1] = p->beams[0];
     }
+    if (!offsets_fit(offsets, offsets_len, ports)) return 13;
     if (room < v * ports) return 11;
 
     p->ports = ports;
-    p->blocks = half_length ? 4 : 2;
-    p->rows = half_length ? r->n1 / 2 : r->n1;
-    p->columns = r->n2;
+    p->half_length = half_length;
     p->f = n * QUARTER;
+    // A half-length beam is the first half of the whole one, whose second half is the first turned by i11 quarters.
     p->t = r->i13 * EIGHTH;
     return 0;
 }
 
 // The same for a multi-panel report.
 static uint32_t judge_panels(const aspenflick_panel_report *r, const uint8_t *mask, size_t mask_len, uint8_t ranks,
-                             size_t room, panel_plan *p) {
+                             const uint16_t *offsets, size_t offsets_len, size_t room, panel_plan *p) {
     if ((r->ng != 2 && r->ng != 4) || r->n1 > MOST_PANEL_N1 || r->n2 > MOST_PANEL_N2) return 1;
     unsigned ports = panel_ports_of[r->ng / 2][r->n2][r->n1];
     if (ports == 0) return 1;
@@ -223,70 +256,74 @@ static uint32_t judge_panels(const aspenflick_panel_report *r, const uint8_t *ma
         if (!mask_bit(mask, down * b.l + b.m)) return 10;
         p->beams[1] = b;
     }
+    if (!offsets_fit(offsets, offsets_len, ports)) return 13;
     if (room < v * ports) return 11;
 
     p->ports = ports;
-    p->f = i2[0] * QUARTER;
+    p->turns[0] = 0;
+    p->turns[1] = i2[0] * QUARTER;
     if (r->mode == 2) {
-        p->turns[0][0] = (i14[0] + i2[1]) % 4 * QUARTER;
-        p->turns[0][1] = (i14[1] + i2[2] - i2[0]) % 4 * QUARTER;
+        p->turns[2] = (i14[0] + i2[1]) * QUARTER;
+        p->turns[3] = (i14[1] + i2[2]) * QUARTER;
     } else {
-        for (unsigned g = 0; g < r->ng - 1; g++) p->turns[g][0] = p->turns[g][1] = i14[g] * QUARTER;
+        for (unsigned g = 1; g < r->ng; g++) {
+            p->turns[2 * g] = i14[g - 1] * QUARTER;
+            p->turns[2 * g + 1] = (i14[g - 1] + i2[0]) * QUARTER;
+        }
     }
     return 0;
 }
 
-// Writes a beam: the first row by steps of `down`, and every other row from the one before it.
-static void write_beam(uint8_t *out, size_t rows, size_t columns, uint8_t across, uint8_t down) {
-    uint8_t phase = 0;
+
+static inline uint16_t turned(uint16_t phase, uint16_t by) {
+    uint16_t sum = phase + by;
+    return sum < TURN ? sum : sum - TURN;
+}
+static void write_beam(uint16_t *out, size_t rows, size_t columns, uint16_t across, uint16_t down) {
+    uint16_t phase = 0;
     for (size_t i = 0; i < columns; i++) {
         out[i] = phase;
         phase = turned(phase, down);
     }
     for (size_t i = columns; i < rows * columns; i++) out[i] = turned(out[i - columns], across);
 }
-
-static void write_turned(uint8_t *restrict out, const uint8_t *restrict block, size_t n, uint8_t by) {
+static void write_turned(uint16_t *restrict out, const uint16_t *restrict block, size_t n, uint16_t by) {
     for (size_t i = 0; i < n; i++) out[i] = turned(block[i], by);
 }
-
-// Writes every layer: its first block as a beam, and the others from it.
-static void write_layers(const aspenflick_report *r, const plan *p, uint8_t *out) {
-    size_t size = p->rows * p->columns;
+static void add_offsets(uint16_t *restrict out, const uint16_t *restrict offsets, size_t n) {
+    for (size_t i = 0; i < n; i++) out[i] = turned(out[i], offsets[i]);
+}
+static void write_layers(const aspenflick_report *r, const plan *p, const uint16_t *offsets, uint16_t *out) {
+    size_t rows = p->half_length ? r->n1 / 2 : r->n1, size = rows * r->n2;
     for (size_t j = 0; j < r->v; j++, out += p->ports) {
         const column *c = &columns_of[r->v][j];
         const beam *b = &p->beams[c->place];
-        write_beam(out, p->rows, p->columns, b->l * step_of[r->n1], b->m * step_of[r->n2]);
-        uint8_t second = c->times_f ? turned(p->f, c->added) : c->added;
-        if (p->blocks == 2) {
+        write_beam(out, rows, r->n2, b->l * step_of[r->n1], b->m * step_of[r->n2]);
+        uint16_t second = c->times_f ? turned(p->f, c->added) : c->added;
+        if (!p->half_length) {
             write_turned(out + size, out, size, second);
         } else {
-            uint8_t quarter = turned(p->t, c->place ? HALF : 0);
+            uint16_t quarter = turned(p->t, c->place ? HALF : 0);
             write_turned(out + size, out, size, quarter);
             write_turned(out + 2 * size, out, 2 * size, second);
         }
+        add_offsets(out, offsets, p->ports);
     }
 }
-
-// Writes every layer: its first panel, and the others from it.
-static void write_panels(const aspenflick_panel_report *r, const panel_plan *p, uint8_t *out) {
+static void write_panels(const aspenflick_panel_report *r, const panel_plan *p, const uint16_t *offsets, uint16_t *out) {
     size_t size = r->n1 * r->n2;
     for (size_t j = 0; j < r->v; j++) {
         const column *c = &columns_of[r->v][j];
         const beam *b = &p->beams[c->place];
-        const uint8_t *panel = out;
+        uint16_t *layer = out;
         write_beam(out, r->n1, r->n2, b->l * step_of[r->n1], b->m * step_of[r->n2]);
-        write_turned(out + size, panel, size, turned(p->f, c->added));
+        write_turned(out + size, layer, size, turned(p->turns[1], c->added));
         out += 2 * size;
-        for (size_t g = 0; g < r->ng - 1; g++, out += 2 * size) {
-            const uint8_t *turns = p->turns[g];
-            if (turns[0] == turns[1]) {
-                write_turned(out, panel, 2 * size, turns[0]);
-            } else {
-                write_turned(out, panel, size, turns[0]);
-                write_turned(out + size, panel + size, size, turns[1]);
-            }
+        for (size_t g = 1; g < r->ng; g++, out += 2 * size) {
+            write_turned(out, layer, size, p->turns[2 * g] % TURN);
+            write_turned(out + size, layer, size, turned(p->turns[2 * g + 1] % TURN, c->added));
         }
+        add_offsets(layer, offsets, p->ports);
     }
 }
 
@@ -302,49 +339,47 @@ static aspenflick_record accepted(uint32_t ports, uint32_t v, const beam *beams)
     return record;
 }
 
-static void write_weights(int16_t *restrict out, const uint8_t *restrict phases, size_t n) {
-    for (size_t i = 0; i < n; i++) {
-        out[2 * i] = weight_of[phases[i]][0];
-        out[2 * i + 1] = weight_of[phases[i]][1];
-    }
+static void write_weights(int16_t *restrict out, const uint16_t *restrict phases, size_t n) {
+    weight *weights = (weight *)out;
+    for (size_t i = 0; i < n; i++) weights[i] = weight_of[phases[i]];
 }
 
 aspenflick_record baseline_phases(aspenflick_report r, const uint8_t *mask, size_t mask_len, uint8_t ranks,
-                                  uint8_t *out, size_t out_len) {
+                                  const uint16_t *offsets, size_t offsets_len, uint16_t *out, size_t out_len) {
     plan p;
-    uint32_t refusal = judge(&r, mask, mask_len, ranks, out_len, &p);
+    uint32_t refusal = judge(&r, mask, mask_len, ranks, offsets, offsets_len, out_len, &p);
     if (refusal) return refused(refusal);
-    write_layers(&r, &p, out);
+    write_layers(&r, &p, offsets, out);
     return accepted(p.ports, r.v, p.beams);
 }
 
 aspenflick_record baseline_weights(aspenflick_report r, const uint8_t *mask, size_t mask_len, uint8_t ranks,
-                                   int16_t *out, size_t out_len) {
+                                   const uint16_t *offsets, size_t offsets_len, int16_t *out, size_t out_len) {
     plan p;
-    uint32_t refusal = judge(&r, mask, mask_len, ranks, out_len / 2, &p);
+    uint32_t refusal = judge(&r, mask, mask_len, ranks, offsets, offsets_len, out_len / 2, &p);
     if (refusal) return refused(refusal);
-    uint8_t phases[MOST_ENTRIES];
-    write_layers(&r, &p, phases);
+    uint16_t phases[MOST_ENTRIES];
+    write_layers(&r, &p, offsets, phases);
     write_weights(out, phases, r.v * p.ports);
     return accepted(p.ports, r.v, p.beams);
 }
 
 aspenflick_record baseline_panel_phases(aspenflick_panel_report r, const uint8_t *mask, size_t mask_len, uint8_t ranks,
-                                        uint8_t *out, size_t out_len) {
+                                        const uint16_t *offsets, size_t offsets_len, uint16_t *out, size_t out_len) {
     panel_plan p;
-    uint32_t refusal = judge_panels(&r, mask, mask_len, ranks, out_len, &p);
+    uint32_t refusal = judge_panels(&r, mask, mask_len, ranks, offsets, offsets_len, out_len, &p);
     if (refusal) return refused(refusal);
-    write_panels(&r, &p, out);
+    write_panels(&r, &p, offsets, out);
     return accepted(p.ports, r.v, p.beams);
 }
 
 aspenflick_record baseline_panel_weights(aspenflick_panel_report r, const uint8_t *mask, size_t mask_len, uint8_t ranks,
-                                         int16_t *out, size_t out_len) {
+                                         const uint16_t *offsets, size_t offsets_len, int16_t *out, size_t out_len) {
     panel_plan p;
-    uint32_t refusal = judge_panels(&r, mask, mask_len, ranks, out_len / 2, &p);
+    uint32_t refusal = judge_panels(&r, mask, mask_len, ranks, offsets, offsets_len, out_len / 2, &p);
     if (refusal) return refused(refusal);
-    uint8_t phases[MOST_PANEL_ENTRIES];
-    write_panels(&r, &p, phases);
+    uint16_t phases[MOST_PANEL_ENTRIES];
+    write_panels(&r, &p, offsets, phases);
     write_weights(out, phases, r.v * p.ports);
     return accepted(p.ports, r.v, p.beams);
 }

@@ -13,8 +13,8 @@ standard output, each behind four spaces:
 
     worked-2-the-example  '2 1 1 2 7 0 1 0\n'
         ok 4 2 8
-        0 168 0 168
-        0 72 96 168
+        0 336 0 336
+        0 144 192 336
     unreadable-257-bytes-the-example-first  '2 1 1 2 7 0 1 0\n' + 'x' * 241
         unreadable
 
@@ -22,7 +22,7 @@ The input is a Python string in which each character is a byte; a long run in it
 are compared to the byte; the exit status is 0, and nothing comes on standard error unless a read or a write fails. A
 case stands in the file of its kind, with which its name begins:
 
-  worked       the reports that 01 works out, with the answers written here
+  worked       the reports that 01 works out, with the answers written here: 01's phases doubled, as 02 has them
   setting      every setting, mode and rank: all indices at their last values, and indices drawn within their ranges
   accepted     the last values in range, and unusual forms of numbers that are allowed
   refused-N    the first values out of range, values that fewer bits would make legal ones, and two faults at once, for
@@ -31,7 +31,7 @@ case stands in the file of its kind, with which its name begins:
   damage       the line of 01's example with one byte replaced, left out or put in
 
 What a name promises (ok, refused N, unreadable) is held against the model, which gives all other answers. The model is
-the one of precoder.py, with masks of ones, behind a rule of its own for what is readable.
+the one of precoder.py, with masks of ones and offsets of 0, behind a rule of its own for what is readable.
 """
 
 import ast
@@ -51,6 +51,7 @@ import time
 import tty
 from pathlib import Path
 
+from harness import layers_in, phases_in
 from precoder import MODES, PHASES, SETTINGS, SINGLE, Report, precoder, ranks_of, values
 
 STORE = Path(__file__).resolve().parent / 'cases'
@@ -76,12 +77,12 @@ def answer_of(data):
     if report is None:
         return 'unreadable\n'
     s = SETTINGS.get(report[:2])
-    number = SINGLE.refusal(PHASES, report, 255, SINGLE.ones(s) if s else b'', ROOM)
+    mask, offsets = (SINGLE.ones(s), (0,) * s.P) if s else (b'', ())
+    number = SINGLE.refusal(PHASES, report, 255, mask, offsets, ROOM)
     if number:
         return f'refused {number}\n'
-    phases = precoder(report).phases
-    layers = [phases[k * s.P:(k + 1) * s.P] for k in range(report.v)]
-    lines = [('ok', s.P, report.v, report.v * s.P), *layers]
+    layers = layers_in(precoder(report).phases, report.v)
+    lines = [('ok', s.P, report.v, report.v * s.P), *map(phases_in, layers)]
     return ''.join(' '.join(map(str, line)) + '\n' for line in lines)
 
 
@@ -93,33 +94,33 @@ EXAMPLE = b'2 1 1 2 7 0 1 0\n'
 WORKED = {
     'worked-1': ('2 1 1 1 1 0 0 1', """
 ok 4 1 4
-0 24 48 72
+0 48 96 144
 """),
     'worked-2-the-example': ('2 1 1 2 7 0 1 0', """
 ok 4 2 8
-0 168 0 168
-0 72 96 168
+0 336 0 336
+0 144 192 336
 """),
     'worked-3-beam-9-is-beam-1': ('2 1 2 1 3 0 0 15', """
 ok 4 1 4
-0 24 144 168
+0 48 288 336
 """),
     'worked-4-thirds-of-a-turn': ('3 2 1 3 0 0 3 0', """
 ok 12 3 36
 0 0 0 0 0 0 0 0 0 0 0 0
-0 0 128 128 64 64 0 0 128 128 64 64
-0 0 0 0 0 0 96 96 96 96 96 96
+0 0 256 256 128 128 0 0 256 256 128 128
+0 0 0 0 0 0 192 192 192 192 192 192
 """),
     'worked-5-half-length-beam': ('8 1 1 3 1 0 1 1', """
 ok 16 3 48
-0 12 24 36 24 36 48 60 48 60 72 84 72 84 96 108
-0 12 24 36 120 132 144 156 48 60 72 84 168 180 0 12
-0 12 24 36 24 36 48 60 144 156 168 180 168 180 0 12
+0 24 48 72 48 72 96 120 96 120 144 168 144 168 192 216
+0 24 48 72 240 264 288 312 96 120 144 168 336 360 0 24
+0 24 48 72 48 72 96 120 288 312 336 360 336 360 0 24
 """),
     'worked-6-two-ports': ('1 1 1 2 0 0 0 1', """
 ok 2 2 4
-0 48
-0 144
+0 96
+0 288
 """),
     'worked-6-two-ports-i2-2': ('1 1 1 2 0 0 0 2', 'refused 9\n'),
     'worked-7-i11-8': ('4 1 1 7 8 0 0 0', 'refused 6\n'),
@@ -210,7 +211,7 @@ ACCEPTED = {
     'accepted-forty-eight-bytes-setting-16-1': '00016 00001 00002 00002 00031 00000 00003 00007',
     'accepted-leading-zeros-of-all-lengths': '2 01 001 0002 00007 0000 001 00',
     'accepted-leading-zeros-of-eight': '00008 00002 00001 00008 00031 00003 00000 00001',
-    'accepted-the-longest-answer': '4 4 1 8 15 15 0 1',
+    'accepted-the-longest-answer': '16 1 1 8 19 0 0 1',
 }
 
 # Lines as text, in Latin-1, without the newline.

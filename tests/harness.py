@@ -6,30 +6,42 @@ answers, as batch.c reads and writes them, what is sent, and what is asked of th
 What is sent, for each of the two functions
 -------------------------------------------
   reports    every report in range of every setting, mode and rank, into a buffer just long enough, with only its bit of
-             the rank mask and the bits it reads of the beam mask ones; and with masks of ones into buffers longer and
-             shorter by one number, for weights also by two
+             the rank mask and the bits it reads of the beam mask ones, twice: with offsets of 0, and with the fixed list
+             of its setting, in which no two ports have the same; and with a list drawn for it and masks of ones into
+             buffers longer and shorter by one number, for weights also by two
   masks      every report in range, with only the bits it reads ones, and with each bit it reads the only zero
   ranks      every rank mask, for every setting, mode and rank
-  bounds     each number of a report and both lengths on both sides of their bounds and at values that 8, 16 or 31 bits
+  bounds     each number of a report and all lengths on both sides of their bounds and at values that 8, 16 or 31 bits
              cut down to legal ones; numbers that are no setting
+  offsets    for every setting, mode and rank: 383 and 384 in every place of the list, higher ones in three places, lists
+             of all lengths, and bad lists beside a buffer too short and beside each refusal that comes before
   order      all pairs of faults for every setting, mode and rank, and all sets of two or more faults for every setting
   random     requests drawn from legal numbers, bounds and extremes, answered by the whole model
+Where nothing is said of the offsets they are the fixed list of the setting, and 0 with numbers that are no setting.
 Of a codebook with very many reports only a part is sent into longer and shorter buffers and with such masks; its
 docstring says which.
 On a refusal the record's other numbers, l and m of its beams among them, are 0 and the buffer is as lent. Bytes around
-the buffer and the mask, and the mask, never change. No call of phases uses more than 1,024 bytes of stack, no call of
-weights more than 2,048.
+the buffer, the mask and the offsets, and the mask and the offsets, never change. No call of phases uses more than 1,024
+bytes of stack, no call of weights more than 2,048.
+That mistakes with offsets are seen is itself tested: stand-ins that make one each (MISTAKES) answer what is sent, and
+must be found out at every setting.
 
 What is asked of the answers, for every report
 ----------------------------------------------
-These are computed from the numbers that came from the library, not from the model; of equal answers, from one:
-  phases     every two layers are exactly orthogonal, by the count rule of 01, which is itself held against complex sums
-  beams      every layer of phases begins with the entries of v_{l,m} for the (l,m) that the record names for it, a
-             half-length one with the first half of them; places behind the layers' have (0,0). That this fails where
-             beams are spoiled is itself tested
+These are computed from the numbers that came from the library, not from the model; of equal answers, from one. They are
+asked of the answers with offsets of 0, with the fixed lists and with the drawn ones:
+  phases     every two layers are exactly orthogonal, by the count rule of 01, at doubled places, which is itself held
+             against complex sums
+  offsets    every phase with a list is the one with offsets of 0 and the offset of its port, added in whole numbers,
+             modulo a turn
+  beams      with offsets of 0 every layer of phases begins with the entries of v_{l,m} for the (l,m) that the record names
+             for it, a half-length one with the first half of them; places behind the layers' have (0,0). That this fails
+             where beams are spoiled is itself tested
   weights    the cross-sum of every two layers, the power of every weight, the power of every port over the layers, and
              how far the powers of two ports differ are within the limits that are proved; the worst of each is the
              figure known for it
+The largest part that a cross-sum has with any list of offsets is found from the differences of phases and the table: each
+port adds what the worst of its 384 offsets makes of it. That list is sent too, and the part comes.
 The limits on sums and powers do not tell a weight from its mirror image (x and y exchanged, or y negated); that is seen
 by the comparison with the model only.
 """
@@ -37,6 +49,7 @@ by the comparison with the model only.
 import array
 import cmath
 import collections
+import copy
 import functools
 import gc
 import itertools
@@ -49,10 +62,35 @@ import sys
 from pathlib import Path
 
 import table
+from table import RADIUS, TURN
 
-TURN, RADIUS, SEED = 192, 16384, 38_214
+SEED = 38_214
 
 # ---- Entries ---------------------------------------------------------------------------------------------------------
+
+# The bytes of a number: a phase, an offset or a part of a weight.
+WIDTH = 2
+
+
+def packed(letter, numbers):
+    """The bytes of numbers, by struct's letter: H for phases and offsets, h for weights."""
+    return struct.pack(f'<{len(numbers)}{letter}', *numbers)
+
+
+def numbers_in(letter, data):
+    return struct.unpack(f'<{len(data) // WIDTH}{letter}', data)
+
+
+@functools.lru_cache(maxsize=None)
+def phases_in(data):
+    return numbers_in('H', data)
+
+
+@functools.lru_cache(maxsize=None)
+def entry(e):
+    """The complex number of size 1 at e parts of a turn."""
+    return cmath.exp(2j * cmath.pi * e / TURN)
+
 
 def nearest(part):
     """The whole number nearest to 16384 times a part of an entry of size 1."""
@@ -68,18 +106,49 @@ def read_off(entries, size):
     phases, weights = [], []
     for w in entries:
         e = round(cmath.phase(w) * TURN / (2 * cmath.pi)) % TURN
-        if abs(w - size * cmath.exp(2j * cmath.pi * e / TURN)) > 1e-9:
+        if abs(w - size * entry(e)) > 1e-9:
             raise ArithmeticError(f'{w} of size {size} is not a whole phase')
         phases.append(e)
         weights += [nearest(w.real / size), nearest(w.imag / size)]
-    return bytes(phases), struct.pack(f'<{len(weights)}h', *weights)
+    return packed('H', phases), packed('h', weights)
+
+
+@functools.lru_cache(maxsize=None)
+def turned_by(offset):
+    """What an offset makes of an entry, by its phase: the phases (H) and the weights (h) that are read off the product."""
+    return dict(zip('Hh', zip(*[read_off([entry(e) * entry(offset)], 1) for e in range(TURN)])))
+
+
+# Of the last lists only: a drawn one is used a few times, one after the other.
+@functools.lru_cache(maxsize=64)
+def turned_by_list(offsets, letter):
+    return [turned_by(offset)[letter] for offset in offsets]
+
+
+def turned(phases, offsets, function):
+    """The answer of a function for layers of these phases when each port is turned by its offset."""
+    by_port = itertools.cycle(turned_by_list(offsets, function.letter))
+    return b''.join(map(operator.getitem, by_port, numbers_in('H', phases)))
+
+
+@functools.lru_cache(maxsize=64)
+def list_bytes(offsets):
+    """A list of offsets as it stands in a request."""
+    return struct.pack(f'<H{len(offsets)}H', len(offsets), *offsets)
+
+
+@functools.lru_cache(maxsize=None)
+def fixed_list(s):
+    """The fixed list of a setting: an offset for each port, no two of them alike."""
+    draw = random.Random(f'{SEED} {tuple(s)}')
+    return tuple(sorted(range(TURN), key=lambda offset: draw.random())[:s.P])
 
 
 # ---- A codebook and its two functions --------------------------------------------------------------------------------
 
-# Its code in a request; a number of its buffer, by struct's letter and in bytes; the numbers of an entry; the most
-# bytes of stack it may use.
-Function = collections.namedtuple('Function', 'name code letter width parts most_stack')
+# Its code in a request; a number of its buffer, by struct's letter; the numbers of an entry; the most bytes of stack it
+# may use.
+Function = collections.namedtuple('Function', 'name code letter parts most_stack')
 
 # How many functions batch.c knows.
 CODES = 4
@@ -87,7 +156,7 @@ CODES = 4
 
 def functions(prefix, code):
     """The two functions of a codebook, phases and weights."""
-    return (Function(prefix + 'phases', code, 'B', 1, 1, 1024), Function(prefix + 'weights', code + 1, 'h', 2, 2, 2048))
+    return Function(prefix + 'phases', code, 'H', 1, 1024), Function(prefix + 'weights', code + 1, 'h', 2, 2048)
 
 
 def needed(function, s, v):
@@ -95,10 +164,16 @@ def needed(function, s, v):
     return function.parts * v * s.P
 
 
+# The offsets with which reports are sent, by name.
+KINDS = ZEROS, FIXED, DRAWN = 'offsets of 0', 'the fixed list', 'drawn lists'
+
+# The worst part of a cross-sum; the lowest and the highest power of a weight, less 16384 squared; how far the powers of two
+# ports differ at most, and the setting and the rank where they do.
+Figures = collections.namedtuple('Figures', 'part lowest highest apart apart_at')
+
 # What is known of all reports: how many there are, their phases, their layers, their pairs of layers, the phases that they
-# have; the worst part of a cross-sum; the lowest and the highest power of a weight, less 16384 squared; how far the powers
-# of two ports differ at most, and the setting and the rank where they do.
-Known = collections.namedtuple('Known', 'reports phases layers pairs reached part lowest highest apart apart_at')
+# have with offsets of 0; the figures for each kind of offsets; the worst part of a cross-sum over all lists of offsets.
+Known = collections.namedtuple('Known', 'reports phases layers pairs reached figures part_of_any_list')
 
 
 class Codebook:
@@ -116,7 +191,8 @@ class Codebook:
     bits_of       of a report in range: the bits of the beam mask that it reads
     beams_of      of a report in range: the bytes of the beams that the record names, made by places_of
     first_rows    of a setting and rank: by (l,m), the phases with which a layer of that beam begins
-    answer_of     of a function and a report in range: the bytes of the answer, layer after layer
+    answer_of     of a function and a report in range: the bytes of the answer with offsets of 0, layer after layer
+    fixed_of      the same with the fixed list of its setting: what `turned` gives, kept, as it is used the most
     below         what is no setting is tried for all numbers below these
     extremes      and for these in every place
     near_misses   of a setting: numbers near it that are no setting
@@ -124,14 +200,15 @@ class Codebook:
     draw_numbers  of a generator and a setting: numbers that mostly are no setting
     listed        of a setting, mode and rank: how many reports are in range
     known         what is known of all reports
-    among         of a setting, mode and rank: one of so many reports is sent into longer and shorter buffers and with masks
+    among         of a setting, mode and rank: one of so many reports is sent into longer and shorter buffers, with drawn
+                  lists, and with masks
     """
 
     def __init__(self, **fields):
         self.__dict__.update(fields)
         self.phases, self.weights = self.functions
         self.numbers = self.Report._fields.index('mode')
-        self.order = (1, 2, 3, 4, 5, *dict.fromkeys(self.refusals.values()), 10, 11)
+        self.order = (1, 2, 3, 4, 5, *dict.fromkeys(self.refusals.values()), 10, 13, 11)
 
     def report(self, s, mode, v, indices):
         return self.Report(*s[:self.numbers], mode, v, *indices)
@@ -181,7 +258,18 @@ class Codebook:
         mask[k // 8] -= 1 << k % 8
         return bytes(mask)
 
-    def refusal(self, function, report, ranks, mask, length):
+    def answer(self, function, report, offsets):
+        """The bytes of the answer to a report in range, layer after layer."""
+        if not any(offsets):
+            return self.answer_of(function, report)
+        if offsets == fixed_list(self.setting_of(report)):
+            return self.fixed_of(function, report)
+        return turned(self.answer_of(self.phases, report), offsets, function)
+
+    def unfit(self, s, offsets):
+        return len(offsets) != s.P or max(offsets) >= TURN
+
+    def refusal(self, function, report, ranks, mask, offsets, length):
         """The first refusal that applies, or 0."""
         s, mode, v = self.settings.get(report[:self.numbers]), report.mode, report.v
         if s is None:
@@ -201,6 +289,8 @@ class Codebook:
         for k in self.bits_of(report):
             if not mask[k // 8] >> (k % 8) & 1:
                 return 10
+        if self.unfit(s, offsets):
+            return 13
         if length < needed(function, s, v):
             return 11
         return 0
@@ -238,19 +328,15 @@ def as_lent(fill, size, start=0):
     return b'' if start == size else (LENT[fill] * (size // 256 + 1))[start:size]
 
 
-def numbers_of(function, data):
-    """The numbers that stand in the bytes of a function's buffer."""
-    return struct.unpack(f'<{len(data) // function.width}{function.letter}', data)
-
-
 def show_report(report):
     return ' '.join(f'{name}={x}' for name, x in zip(report._fields, report))
 
 
-def show_request(function, report, ranks, mask, length, fill):
+def show_request(function, report, ranks, mask, offsets, length, fill):
     shown = mask[:32].hex() + ('..' if len(mask) > 32 else '')
+    listed = ' '.join(map(str, offsets[:33])) + (' ..' if len(offsets) > 33 else '')
     return (f'{function.name} of {show_report(report)}, rank mask {ranks:02x}, beam mask {shown} ({len(mask)} bytes), '
-            f'buffer {length} from {fill}')
+            f'offsets {listed} ({len(offsets)}), buffer {length} from {fill}')
 
 
 def show_record(answer):
@@ -263,8 +349,8 @@ def show_difference(function, answer, came):
         return 'no answer came'
     text = f'expected record {show_record(answer)}, came {show_record(came)}'
     if came[RECORD_SIZE] != 1:
-        text += '; the mask or a guard changed'
-    numbers = zip(*[numbers_of(function, data[RECORD_SIZE + 1:]) for data in (answer, came)])
+        text += '; the mask, an offset or a guard changed'
+    numbers = zip(*[numbers_in(function.letter, data[RECORD_SIZE + 1:]) for data in (answer, came)])
     different = [(place, x, y) for place, (x, y) in enumerate(numbers) if x != y]
     if different:
         text += '; expected number {} {}, came {}'.format(*different[0]) + f' ({len(different)} numbers differ)'
@@ -288,7 +374,8 @@ class Tests:
     def clear(self):
         self.requests, self.answers, self.came = bytearray(), bytearray(), b''
         self.test_of, self.request_at, self.answer_at = array.array('L'), array.array('L'), array.array('L')
-        # By mode and rank: the reports in buffers just long enough, and the places of their answers.
+        # By mode and rank: for each kind of offsets, the reports that are sent with it, the offsets, and the places of the
+        # answers.
         self.reports = []
 
     def begin(self, name):
@@ -305,23 +392,24 @@ class Tests:
         first, count = self.failures.get(test, (text, 0))
         self.failures[test] = first, count + 1
 
-    def add(self, function, report, ranks, mask, length, fill, number, test=None):
+    def add(self, function, report, ranks, mask, offsets, length, fill, number, test=None):
         """A request, and the refusal number it is built for (0 for none), which must be the model's too."""
         test = self.test if test is None else test
-        by_model = self.book.refusal(function, report, ranks, mask, length)
+        by_model = self.book.refusal(function, report, ranks, mask, offsets, length)
         if by_model != number:
-            request = show_request(function, report, ranks, mask, length, fill)
+            request = show_request(function, report, ranks, mask, offsets, length, fill)
             self.fail(test, f'{request}: built for {number}, {by_model} by the model')
         self.test_of.append(test)
         self.request_at.append(len(self.requests))
         self.answer_at.append(len(self.answers))
         self.expected[function.code][number] += 1
-        self.requests += self.head.pack(function.code, *report, ranks, len(mask)) + mask + TAIL.pack(length, fill)
-        size = function.width * length
+        self.requests += b''.join((self.head.pack(function.code, *report, ranks, len(mask)), mask, list_bytes(offsets),
+                                   TAIL.pack(length, fill)))
+        size = WIDTH * length
         if number:
             self.answers += NUMBERS.pack(number, 0, 0, 0) + NO_BEAMS + b'\1' + as_lent(fill, size)
         else:
-            answer, ports, layers = self.book.answer_of(function, report), self.book.setting_of(report).P, report.v
+            answer, ports, layers = self.book.answer(function, report, offsets), len(offsets), report.v
             self.answers += NUMBERS.pack(0, ports, layers, layers * ports) + self.book.beams_of(report) + b'\1' + answer
             self.answers += as_lent(fill, size, len(answer))
 
@@ -354,12 +442,16 @@ class Tests:
         self.fail(self.test_of[k], f'{show_request(function, *asked)}: {show_difference(function, answer, came)}')
 
     def decode(self, at):
-        """The request that starts at a place: function, report, rank mask, beam mask, buffer length, first fill value."""
+        """The request that starts at a place, as it was added."""
         code, *report, ranks, mask_length = self.head.unpack_from(self.requests, at)
         (function,) = (function for function in self.book.functions if function.code == code)
         at += self.head.size
         mask = bytes(self.requests[at:at + mask_length])
-        return (function, self.book.Report(*report), ranks, mask, *TAIL.unpack_from(self.requests, at + mask_length))
+        at += mask_length
+        (count,) = numbers_in('H', self.requests[at:at + WIDTH])
+        after = at + WIDTH * (1 + count)
+        offsets = numbers_in('H', self.requests[at + WIDTH:after])
+        return (function, self.book.Report(*report), ranks, mask, offsets, *TAIL.unpack_from(self.requests, after))
 
     def report(self):
         for function, test in zip(self.book.functions, self.stack):
@@ -383,16 +475,19 @@ def weights_of_phases(tests):
     tests.begin('weights of all phases by the model and in 60 digits')
     pairs, _ = table.expected()
     for e, pair in enumerate(pairs):
-        w = cmath.exp(2j * cmath.pi * e / TURN)
+        w = entry(e)
         tests.check((nearest(w.real), nearest(w.imag)) == pair, f'phase {e}: 60 digits give {pair}')
+
+
+HALF, THIRD, SIXTH = TURN // 2, TURN // 3, TURN // 6
 
 
 @functools.lru_cache(maxsize=None)
 def sum_to_zero(phases):
-    """Whether entries of these phases have the sum zero, exactly, by the count rule of 01."""
+    """Whether entries of these phases have the sum zero, exactly, by the count rule of 01 at doubled places."""
     count = collections.Counter(phases)
-    d = [count[e] - count[e + TURN // 2] for e in range(TURN // 2)]
-    return all(d[i] == d[64 + i] and d[32 + i] == -d[64 + i] for i in range(32))
+    d = [count[e] - count[e + HALF] for e in range(HALF)]
+    return all(d[i] == d[THIRD + i] and d[SIXTH + i] == -d[THIRD + i] for i in range(SIXTH))
 
 
 def count_rule(tests):
@@ -406,42 +501,54 @@ def count_rule(tests):
             phases += [(e + k * TURN // parts) % TURN for k in range(parts)]
         if draw.random() < 0.5:
             phases[0] = (phases[0] + draw.randrange(TURN)) % TURN
-        zero = sum_to_zero(bytes(phases))
+        zero = sum_to_zero(tuple(phases))
         by_rule[zero] += 1
-        total = abs(sum(cmath.exp(2j * cmath.pi * e / TURN) for e in phases))
+        total = abs(sum(map(entry, phases)))
         tests.check(zero == (total < 1e-9), f'{phases}: {zero} by the rule, the sum has the size {total}')
     tests.check(min(by_rule[True], by_rule[False]) > sums // 4, f'drawn too unevenly: {by_rule}')
 
 
 # ---- Every report in range -------------------------------------------------------------------------------------------
 
-def fill_for(function, length, n):
-    """A first fill value by which the next numbers after so many are, as lent, none that the function answers."""
-    # No phase is 192 or above. The upper byte of a weight is at most 64 or at least 192; that of the next number is 74
-    # above this one's.
-    upper = 192 + n % 64 if function.width == 1 else 66 + n % 50
-    return (upper - 37 * (function.width * (length + 1) - 1)) % 256
+def fill_for(length, n):
+    """A first fill value by which the next numbers after so many are, as lent, none that a function answers."""
+    # The upper byte of a phase is 0 or 1, that of a weight at most 64 or at least 192; that of the next number is 74 above
+    # this one's.
+    upper = 66 + n % 50
+    return (upper - 37 * (WIDTH * (length + 1) - 1)) % 256
+
+
+def draw_list(draw, s):
+    return tuple([int(draw.random() * TURN) for _ in range(s.P)])
+
+
+Sent = collections.namedtuple('Sent', 'report offsets at')
 
 
 def reports_of(tests, function, s):
     """All reports of a setting; how many they are, and how many numbers answer them."""
     book, all_reports, all_numbers = tests.book, 0, 0
+    draw = random.Random(f'{SEED} {function.name} {book.name_of(s)}')
+    lists = {ZEROS: (0,) * s.P, FIXED: fixed_list(s)}
     for mode, v in book.cases(s):
         tests.begin(f'{function.name}: reports of {book.name_of(s)} mode {mode} v={v}')
         length, ones, listed = needed(function, s, v), book.ones(s), book.listed(s, mode, v)
-        part, answers = book.part_of_range(s, mode, v), []
+        part, sent = book.part_of_range(s, mode, v), {kind: [] for kind in KINDS}
         for n, report in enumerate(book.reports_in_range(s, mode, v)):
             # No number is lent alike in the longer buffers and in the one just long enough: neither a number too many
             # nor a number too few goes unseen.
-            fill = fill_for(function, length, n)
+            fill = fill_for(length, n)
             if n in part:
+                drawn = draw_list(draw, s)
+                sent[DRAWN].append(Sent(report, drawn, len(tests.answers)))
                 for more in range(1, function.parts + 1):
-                    tests.add(function, report, 255, ones, length + more, fill, 0)
-                    tests.add(function, report, 255, ones, length - more, fill, 11)
-            answers.append((report, len(tests.answers)))
+                    tests.add(function, report, 255, ones, drawn, length + more, fill, 0)
+                    tests.add(function, report, 255, ones, drawn, length - more, fill, 11)
             mask = book.mask_of(s, book.bits_of(report))
-            tests.add(function, report, 1 << (v - 1), mask, length, (fill + 1 + n % 255) % 256, 0)
-        tests.reports.append((mode, v, answers))
+            for kind, offsets in lists.items():
+                sent[kind].append(Sent(report, offsets, len(tests.answers)))
+                tests.add(function, report, 1 << (v - 1), mask, offsets, length, (fill + 1 + n % 255) % 256, 0)
+        tests.reports.append((mode, v, sent))
         tests.check(n + 1 == listed, f'{n + 1} reports in range, {listed} are listed')
         all_reports, all_numbers = all_reports + n + 1, all_numbers + (n + 1) * length
     return all_reports, all_numbers
@@ -461,6 +568,7 @@ def every_report(tests, command):
                     f'{reports} reports, {numbers} numbers')
         print(f'{function.name}: {reports} reports in range, {numbers} numbers')
     asked.figures()
+    asked.worst_list(command)
 
 
 # ---- What is asked of the answers ------------------------------------------------------------------------------------
@@ -495,10 +603,55 @@ def spoiled_beams(tests):
                 tests.check(seen, f'{show_report(report)}: a beam too many')
 
 
+def are_added(with_zeros, offsets, answer):
+    """Whether the phases of an answer are those with offsets of 0, each with the offset of its port added."""
+    sums = map(operator.add, numbers_in('H', with_zeros), itertools.cycle(offsets))
+    return tuple([x % TURN for x in sums]) == numbers_in('H', answer)
+
+
 @functools.lru_cache(maxsize=None)
+def differences(first, second):
+    """Port by port, how far the phases of the second layer are from those of the first."""
+    return tuple([(y - x) % TURN for x, y in zip(phases_in(first), phases_in(second))])
+
+
 def orthogonal(first, second):
     """Whether two layers of phases are so, exactly."""
-    return sum_to_zero(bytes([(y - x) % TURN for x, y in zip(first, second)]))
+    return sum_to_zero(differences(first, second))
+
+
+@functools.lru_cache(maxsize=None)
+def products(difference):
+    """By the phase of the first of two weights with this difference, the parts of conjugate(first) times second."""
+    pairs, _ = table.expected()
+    return [(a * c + b * d, a * d - b * c)
+            for (a, b), (c, d) in zip(pairs, pairs[difference:] + pairs[:difference])]
+
+
+# The ends of a cross-sum: its part, and whether the least or the largest.
+ENDS = [(part, end) for part in (0, 1) for end in (min, max)]
+
+
+@functools.lru_cache(maxsize=None)
+def ends_of(difference):
+    """What a port with this difference adds to each end of a cross-sum, at the worst of its offsets."""
+    return [end([product[part] for product in products(difference)]) for part, end in ENDS]
+
+
+@functools.lru_cache(maxsize=None)
+def largest_of_any_list(between):
+    """The largest part, without its sign, that the cross-sum of layers with these differences has with any offsets."""
+    return max(map(abs, map(sum, zip(*map(ends_of, between)))))
+
+
+def list_for(first, second, largest):
+    """Offsets with which a part of the cross-sum of two layers has this size, which it has with no larger ones."""
+    between = differences(first, second)
+    for k, (part, _) in enumerate(ENDS):
+        if abs(sum(ends_of(difference)[k] for difference in between)) == largest:
+            phases = [[product[part] for product in products(d)].index(ends_of(d)[k]) for d in between]
+            return tuple([(x - e) % TURN for x, e in zip(phases, phases_in(first))])
+    raise ArithmeticError(f'no offsets give {largest}')
 
 
 Layer = collections.namedtuple('Layer', 'x y powers')
@@ -541,88 +694,126 @@ class Worst:
         self.worse, self.value, self.report = worse, None, None
 
     def meet(self, value, report):
-        if self.report is None or self.worse(self.value, value) != self.value:
+        """Whether it is worse than all before."""
+        worse = self.report is None or self.worse(self.value, value) != self.value
+        if worse:
             self.value, self.report = value, report
+        return worse
 
     def figure(self, tests, name, known, limit):
         """Tests that the worst value of all reports is the known one, and shows it beside the proved limit."""
         found = f'{self.value:,} at {show_report(self.report)}'
-        tests.begin(f'weights: {name}')
+        tests.begin(name)
         tests.check(self.value == known, f'{found}; known is {known:,}')
-        print(f'weights: {name}: {found}; the proved limit is {limit:,}')
+        print(f'{name}: {found}; the proved limit is {limit:,}')
 
 
-# Proved for every report: each part of a cross-sum is at most PART P in size; a power less 16384 squared is from LOWEST
-# to HIGHEST, so within PART.
+# Proved for every report and list: each part of a cross-sum is at most PART P in size; a power less 16384 squared is from
+# LOWEST to HIGHEST, so within PART.
 PART, LOWEST, HIGHEST = 32_768, -17_304, 15_121
 APART = HIGHEST - LOWEST
+
+# A setting, mode and rank, and the kind of the offsets.
+Group = collections.namedtuple('Group', 's mode v kind')
 
 
 class Asked:
     """What is asked of the answers as they came, setting by setting, and the worst of all."""
 
     def __init__(self, tests):
-        self.tests, self.reached, self.layers, self.pairs = tests, set(), 0, 0
-        self.part, self.low, self.high, self.apart = Worst(), Worst(min), Worst(), Worst()
+        self.tests, self.layers, self.pairs = tests, 0, collections.Counter()
+        self.reached = {kind: set() for kind in KINDS}
+        self.worst = {kind: Figures(Worst(), Worst(min), Worst(), Worst(), None) for kind in KINDS}
+        self.any_list, self.any_list_layers = Worst(), None
 
     def of(self, function, s):
         """Of the answers to all reports of a setting."""
-        for mode, v, reports in self.tests.reports:
-            answers = self.answers(function, s, v, reports)
-            if function is self.tests.book.phases:
-                self.reached.update(*[phases for _, phases in answers])
-                self.orthogonality(s, mode, v, answers)
-                self.beams(s, mode, v, answers)
-                self.layers += v * len(reports)
-            else:
-                self.cross_sums(s, mode, v, answers)
-                self.powers(s, mode, v, answers)
-                self.pairs += math.comb(v, 2) * len(reports)
-        for cache in (orthogonal, layer_of, largest_part):
+        for mode, v, sent in self.tests.reports:
+            came = {kind: [*self.came(function, s, v, sent[kind])] for kind in KINDS}
+            for kind in KINDS:
+                group, answers = Group(s, mode, v, kind), {}
+                # Equal ones are asked once.
+                for report, _, beams, answer in came[kind]:
+                    answers.setdefault((beams, answer), report)
+                if function is self.tests.book.phases:
+                    for _, phases in answers:
+                        self.reached[kind].update(numbers_in('H', phases))
+                    self.orthogonality(group, answers)
+                    if kind == ZEROS:
+                        self.beams(group, answers)
+                        self.lists(group, answers)
+                        self.layers += v * len(sent[kind])
+                    else:
+                        self.offsets(group, came[ZEROS], came[kind])
+                else:
+                    self.cross_sums(group, answers)
+                    self.powers(group, answers)
+                    self.pairs[kind] += math.comb(v, 2) * len(sent[kind])
+        for cache in (phases_in, differences, layer_of, largest_part):
             cache.cache_clear()
 
-    def answers(self, function, s, v, reports):
-        """The beams and the answers that came, each with the first report that has them: equal ones are asked once."""
-        came, size, answers = self.tests.came, function.width * needed(function, s, v), {}
-        for report, at in reports:
+    def came(self, function, s, v, sent):
+        """For each report that was sent: itself, its offsets, and the beams and the answer that came."""
+        came, size = self.tests.came, WIDTH * needed(function, s, v)
+        for report, offsets, at in sent:
             beams, start = bytes(came[at + NUMBERS.size:at + RECORD_SIZE]), at + RECORD_SIZE + 1
             answer = bytes(came[start:start + size])
             # What did not come counts as bytes that no test allows: beams of no setting, equal phases of no report,
             # weights far too large.
-            answers.setdefault((beams.ljust(BEAMS.size, b'\x7f'), answer.ljust(size, b'\x7f')), report)
-        return answers
+            yield report, offsets, beams.ljust(BEAMS.size, b'\x7f'), answer.ljust(size, b'\x7f')
 
-    def begin(self, what, s, mode, v):
-        self.tests.begin(f'{what.format(self.tests.book.name_of(s))} mode {mode} v={v}')
+    def begin(self, what, group):
+        name = self.tests.book.name_of(group.s)
+        self.tests.begin(f'{what.format(name)} mode {group.mode} v={group.v}, {group.kind}')
 
     def fail(self, report, text):
         self.tests.fail(self.tests.test, f'{show_report(report)}: {text}')
 
-    def orthogonality(self, s, mode, v, answers):
-        if v > 1:
-            self.begin('phases, exactly orthogonal: layers of {}', s, mode, v)
+    def orthogonality(self, group, answers):
+        if group.v > 1:
+            self.begin('phases, exactly orthogonal: layers of {}', group)
             for (_, answer), report in answers.items():
-                if not all(itertools.starmap(orthogonal, itertools.combinations(layers_in(answer, v), 2))):
+                if not all(itertools.starmap(orthogonal, itertools.combinations(layers_in(answer, group.v), 2))):
                     self.fail(report, 'two layers are not orthogonal')
 
-    def beams(self, s, mode, v, answers):
-        self.begin('phases: the beams of {} that records name', s, mode, v)
-        rows = self.tests.book.first_rows(s, v)
+    def beams(self, group, answers):
+        self.begin('phases: the beams of {} that records name', group)
+        rows = self.tests.book.first_rows(group.s, group.v)
         for (beams, answer), report in answers.items():
-            if not are_named(rows, pairs_in(beams), answer, v):
+            if not are_named(rows, pairs_in(beams), answer, group.v):
                 self.fail(report, 'a layer has not the beam that the record names')
 
-    def cross_sums(self, s, mode, v, answers):
-        if v > 1:
-            self.begin('weights: cross-sums of {}', s, mode, v)
-            for (_, answer), report in answers.items():
-                largest = max(itertools.starmap(largest_part, itertools.combinations(layers_in(answer, v), 2)))
-                if largest > PART * s.P:
-                    self.fail(report, f'a part is {largest:,}')
-                self.part.meet(largest, report)
+    def lists(self, group, answers):
+        """The worst of all lists of offsets, for every two layers."""
+        self.begin('phases: cross-sums of {} with any list', group)
+        for (_, answer), report in answers.items():
+            for first, second in itertools.combinations(layers_in(answer, group.v), 2):
+                largest = largest_of_any_list(differences(first, second))
+                if largest > PART * group.s.P:
+                    self.fail(report, f'a part is {largest:,} with some list')
+                if self.any_list.meet(largest, report):
+                    self.any_list_layers = first, second
 
-    def powers(self, s, mode, v, answers):
-        self.begin('weights: powers of {}', s, mode, v)
+    def offsets(self, group, with_zeros, came):
+        self.begin('phases: offsets added to those of {}', group)
+        phases = {report: answer for report, _, _, answer in with_zeros}
+        both = {(phases[report], offsets, answer): report for report, offsets, _, answer in came}
+        for (before, offsets, answer), report in both.items():
+            if not are_added(before, offsets, answer):
+                self.fail(report, f'with {offsets} they are {numbers_in("H", answer)}, without {numbers_in("H", before)}')
+
+    def cross_sums(self, group, answers):
+        if group.v > 1:
+            self.begin('weights: cross-sums of {}', group)
+            for (_, answer), report in answers.items():
+                largest = max(itertools.starmap(largest_part, itertools.combinations(layers_in(answer, group.v), 2)))
+                if largest > PART * group.s.P:
+                    self.fail(report, f'a part is {largest:,}')
+                self.worst[group.kind].part.meet(largest, report)
+
+    def powers(self, group, answers):
+        self.begin('weights: powers of {}', group)
+        v, worst = group.v, self.worst[group.kind]
         for (_, answer), report in answers.items():
             found = powers_of(tuple([layer_of(layer).powers for layer in layers_in(answer, v)]))
             difference = found.highest_port - found.lowest_port
@@ -632,27 +823,52 @@ class Asked:
                 self.fail(report, f'powers of ports from {found.lowest_port:,} to {found.highest_port:,}')
             if difference > v * APART:
                 self.fail(report, f'powers of ports differ by {difference:,}')
-            self.low.meet(found.lowest, report)
-            self.high.meet(found.highest, report)
-            self.apart.meet(difference, report)
+            worst.lowest.meet(found.lowest, report)
+            worst.highest.meet(found.highest, report)
+            worst.apart.meet(difference, report)
 
     def figures(self):
         """What is known of all reports."""
         tests, book, known = self.tests, self.tests.book, self.tests.book.known
         tests.begin('phases: those of all reports are the ones known')
-        tests.check(self.reached == known.reached, f'they are {sorted(self.reached)}')
-        print(f'phases: reports have {len(self.reached)} of {TURN}; the weights of the others are in no answer')
+        tests.check(self.reached[ZEROS] == known.reached, f'they are {sorted(self.reached[ZEROS])}')
+        with_lists = self.reached[FIXED] | self.reached[DRAWN]
+        tests.check(with_lists == {*range(TURN)}, f'with lists there are only {sorted(with_lists)}')
+        print(f'phases: reports have {len(self.reached[ZEROS])} of {TURN} with offsets of 0, and all with lists')
         tests.begin('phases: layers whose beams records name')
         tests.check(self.layers == known.layers, f'{self.layers} layers, known are {known.layers}')
         print(f'phases: {self.layers} layers, held against the beams that records name')
-        print(f'weights: {self.pairs} pairs of layers')
-        self.part.figure(tests, 'largest part of a cross-sum', known.part, PART * book.setting_of(self.part.report).P)
-        tests.check(self.pairs == known.pairs, f'{self.pairs} pairs of layers, known are {known.pairs}')
-        self.low.figure(tests, 'lowest power of a weight, less 16384 squared', known.lowest, LOWEST)
-        self.high.figure(tests, 'highest power of a weight, less 16384 squared', known.highest, HIGHEST)
-        at = self.apart.report
-        self.apart.figure(tests, "largest difference between two ports' powers", known.apart, at.v * APART)
-        tests.check((at[:book.numbers], at.v) == known.apart_at, f'known is {known.apart_at}')
+        for kind, worst in self.worst.items():
+            of_kind = known.figures[kind]
+            print(f'weights, {kind}: {self.pairs[kind]} pairs of layers')
+            worst.part.figure(tests, f'weights, {kind}: largest part of a cross-sum', of_kind.part,
+                              PART * book.setting_of(worst.part.report).P)
+            if kind != DRAWN:
+                tests.check(self.pairs[kind] == known.pairs, f'{self.pairs[kind]} pairs of layers, known are {known.pairs}')
+            tests.check(worst.part.value <= known.part_of_any_list, 'it is larger than with any list')
+            worst.lowest.figure(tests, f'weights, {kind}: lowest power of a weight, less 16384 squared', of_kind.lowest,
+                                LOWEST)
+            worst.highest.figure(tests, f'weights, {kind}: highest power of a weight, less 16384 squared',
+                                 of_kind.highest, HIGHEST)
+            at = worst.apart.report
+            worst.apart.figure(tests, f"weights, {kind}: largest difference between two ports' powers", of_kind.apart,
+                               at.v * APART)
+            tests.check((at[:book.numbers], at.v) == of_kind.apart_at, f'known is {of_kind.apart_at}')
+        self.any_list.figure(tests, 'weights: largest part of a cross-sum with any list of offsets',
+                             known.part_of_any_list, PART * book.setting_of(self.any_list.report).P)
+
+    def worst_list(self, command):
+        """The list that makes the largest part of all, sent to the library."""
+        tests, book, report = self.tests, self.tests.book, self.any_list.report
+        tests.begin('weights: the worst list of offsets gives the largest part')
+        s, offsets = book.setting_of(report), list_for(*self.any_list_layers, self.any_list.value)
+        tests.add(book.weights, report, 255, book.ones(s), offsets, needed(book.weights, s, report.v), 0, 0)
+        tests.run(command)
+        ((*_, answer),) = self.came(book.weights, s, report.v, [Sent(report, offsets, 0)])
+        largest = max(itertools.starmap(largest_part, itertools.combinations(layers_in(answer, report.v), 2)))
+        tests.check(largest == self.any_list.value, f'{show_report(report)} with {offsets}: {largest:,}')
+        print(f'weights: {largest:,} comes with the offsets {" ".join(map(str, offsets))}')
+        tests.clear()
 
 
 # ---- Masks -----------------------------------------------------------------------------------------------------------
@@ -661,14 +877,14 @@ def beam_masks(tests, function):
     book, bits_read = tests.book, 0
     for s, mode, v in book.groups():
         tests.begin(f'{function.name}: beam masks of {book.name_of(s)} mode {mode} v={v}')
-        length, part = needed(function, s, v), book.part_of_range(s, mode, v)
+        length, offsets, part = needed(function, s, v), fixed_list(s), book.part_of_range(s, mode, v)
         all_but = [book.ones_but(s, k) for k in range(8 * book.mask_bytes(s))]
         for n, report in enumerate(book.reports_in_range(s, mode, v)):
             if n in part:
                 bits = book.bits_of(report)
-                tests.add(function, report, 255, book.mask_of(s, bits), length, n % 256, 0)
+                tests.add(function, report, 255, book.mask_of(s, bits), offsets, length, n % 256, 0)
                 for k in bits:
-                    tests.add(function, report, 255, all_but[k], length, (n + k) % 256, 10)
+                    tests.add(function, report, 255, all_but[k], offsets, length, (n + k) % 256, 10)
                 bits_read += len(bits)
     print(f'{function.name}: {bits_read} mask bits read, each barred once')
 
@@ -682,7 +898,8 @@ def rank_masks(tests, function):
                 report = book.corner_reports(s, mode, v)[1]
                 for ranks in range(256):
                     number = 0 if ranks >> (v - 1) & 1 else 5
-                    tests.add(function, report, ranks, book.ones(s), needed(function, s, v), ranks, number)
+                    length = needed(function, s, v)
+                    tests.add(function, report, ranks, book.ones(s), fixed_list(s), length, ranks, number)
 
 
 # ---- Both sides of every bound ---------------------------------------------------------------------------------------
@@ -706,10 +923,10 @@ def changed(numbers, change):
 def not_settings(tests, function):
     book = tests.book
 
-    def refused(numbers, lengths, fill):
+    def refused(numbers, lengths, ports, fill):
         for mode, v, length in itertools.product((1, 2), (1, 4), lengths):
             report = book.Report(*numbers, mode, v, *[0] * len(book.refusals))
-            tests.add(function, report, 255, b'\xff' * length, 256, fill, 1)
+            tests.add(function, report, 255, b'\xff' * length, (0,) * ports, 256, fill, 1)
 
     most = ' x '.join(str(below - 1) for below in book.below)
     tests.begin(f'{function.name}: numbers up to {most} that are not settings')
@@ -717,21 +934,23 @@ def not_settings(tests, function):
     tests.check(len(small) == math.prod(book.below) - len(book.settings), f'{len(small)} of them')
     for numbers in small:
         N1, N2 = numbers[-2:]
-        # The second length is what the mask of such a setting would need, with O1 = 4 and O2 = 4 or 1.
-        refused(numbers, {1, 2 * N1 * N2 if N2 > 1 else (N1 + 1) // 2}, (N1 + 34 * N2) % 256)
+        # The second length is what the mask of such a setting would need, with O1 = 4 and O2 = 4 or 1; and there are as
+        # many offsets as it would have ports.
+        lengths = {1, 2 * N1 * N2 if N2 > 1 else (N1 + 1) // 2}
+        refused(numbers, lengths, 2 * math.prod(numbers), (N1 + 34 * N2) % 256)
 
     tests.begin(f'{function.name}: numbers that become settings, or their ports, when cut down')
     for s in book.settings.values():
         for bits in (8, 16, 24, 31):
             for numbers in changed(s[:book.numbers], lambda x: x + 2 ** bits):
-                refused(numbers, {book.mask_bytes(s)}, bits)
+                refused(numbers, {book.mask_bytes(s)}, s.P, bits)
         for numbers in changed(s[:book.numbers], lambda x: 2 ** 32 - x):
-            refused(numbers, {book.mask_bytes(s)}, s.P)
+            refused(numbers, {book.mask_bytes(s)}, s.P, s.P)
 
     tests.begin(f'{function.name}: settings of 32-bit extremes')
     for numbers in itertools.product(book.extremes, repeat=book.numbers):
         if numbers not in book.settings:
-            refused(numbers, {0, 1, 2, 8, 32}, sum(numbers) % 256)
+            refused(numbers, {0, 1, 2, 8, 32}, sum(numbers) % 33, sum(numbers) % 256)
 
 
 def modes(tests, function):
@@ -742,7 +961,8 @@ def modes(tests, function):
             for mode in sorted({1, *near(3)}):
                 report = book.corner_reports(s, 1, v)[0]._replace(mode=mode)
                 number = 0 if mode in book.modes_of(s) else 2
-                tests.add(function, report, 255, book.ones(s), needed(function, s, v), mode % 256, number)
+                length = needed(function, s, v)
+                tests.add(function, report, 255, book.ones(s), fixed_list(s), length, mode % 256, number)
 
 
 def mask_lengths(tests, function):
@@ -752,10 +972,11 @@ def mask_lengths(tests, function):
         size = book.mask_bytes(s)
         lengths = {0, 1, size - 1, size, size + 1, 2 * size, 8 * size, 256 + size, 31, 32, 33, 64, 255, 256, 65535}
         for mode, v in book.cases(s):
+            enough = needed(function, s, v)
             for length in sorted(lengths if v == 1 else lengths - {65535}):
                 report = book.corner_reports(s, mode, v)[1]
                 number = 0 if length == size else 3
-                tests.add(function, report, 255, b'\xff' * length, needed(function, s, v), length % 256, number)
+                tests.add(function, report, 255, b'\xff' * length, fixed_list(s), enough, length % 256, number)
 
 
 def rank_bounds(tests, function):
@@ -768,7 +989,8 @@ def rank_bounds(tests, function):
             legal = v in book.ranks_of(s)
             for ranks in (0, 255):
                 report, number = book.corner_reports(s, mode, 1)[0]._replace(v=v), 4 if not legal else 0 if ranks else 5
-                tests.add(function, report, ranks, book.ones(s), needed(function, s, most), v % 256, number)
+                enough = needed(function, s, most)
+                tests.add(function, report, ranks, book.ones(s), fixed_list(s), enough, v % 256, number)
 
 
 def index_bounds(tests, function):
@@ -777,10 +999,10 @@ def index_bounds(tests, function):
         for place, (name, refused) in enumerate(book.refusals.items()):
             tests.begin(f'{function.name}: {name} of {book.name_of(s)}')
             for mode, v in book.cases(s):
-                count = book.values(s, mode, v)[place]
+                count, enough = book.values(s, mode, v)[place], needed(function, s, v)
                 for report, index in itertools.product(book.corner_reports(s, mode, v), near(count)):
                     report, number = report._replace(**{name: index}), 0 if index < count else refused
-                    tests.add(function, report, 255, book.ones(s), needed(function, s, v), index % 256, number)
+                    tests.add(function, report, 255, book.ones(s), fixed_list(s), enough, index % 256, number)
 
 
 def buffer_lengths(tests, function):
@@ -795,7 +1017,158 @@ def buffer_lengths(tests, function):
             for length in sorted(lengths | ({65535} if v == 1 else set())):
                 for report in book.corner_reports(s, mode, v):
                     number = 0 if length >= enough else 11
-                    tests.add(function, report, 255, book.ones(s), length, (length + v) % 256, number)
+                    tests.add(function, report, 255, book.ones(s), fixed_list(s), length, (length + v) % 256, number)
+
+
+# ---- Offsets ---------------------------------------------------------------------------------------------------------
+
+def with_offset(offsets, place, offset):
+    """The list with another number in a place."""
+    return (*offsets[:place], offset, *offsets[place + 1:])
+
+
+# Above a turn; 8, 9 or 15 bits of them, or what is left without a turn or without 65,536, are legal.
+HIGH = (385, 511, 512, 639, 640, 767, 768, 1024, 32767, 32768, 65152, 65153, 65535)
+
+
+def lists_of(s):
+    """Lists of a setting's offsets, those that are fit and those that are not."""
+    fixed, zeros, P = fixed_list(s), (0,) * s.P, s.P
+    yield from (zeros, fixed, fixed[::-1], (TURN - 1,) * P, (TURN,) * P, (65535,) * P)
+    yield from (with_offset(fixed, place, offset) for place in range(P) for offset in (0, TURN - 1, TURN))
+    yield from (with_offset(fixed, place, offset) for place in (0, P // 2, P - 1) for offset in HIGH)
+    yield from (fixed[:count] for count in {0, 1, P // 2, P - 1})
+    yield from (zeros + (0,), fixed + (0,), fixed + (TURN,), fixed * 2, zeros * 8, zeros * 16, fixed + (0,) * 256)
+
+
+def offset_requests(book, function, s):
+    """What is sent of a setting for its offsets: of which test it is, the request, and its number."""
+    ones, earlier = book.ones(s), book.order[:book.order.index(13)]
+    bad = [fixed_list(s)[:-1], fixed_list(s) + (0,), (), with_offset(fixed_list(s), s.P - 1, TURN)]
+    for mode, v in book.cases(s):
+        enough = needed(function, s, v)
+        for variant, report in enumerate(book.corner_reports(s, mode, v)):
+            first_layer = numbers_in('H', book.answer_of(book.phases, report))[:s.P]
+            around_a_turn = [tuple([(TURN + more - e) % TURN for e in first_layer]) for more in (-1, 0, 1)]
+            for offsets in (*lists_of(s), *around_a_turn):
+                number = 0 if len(offsets) == s.P and all(offset < TURN for offset in offsets) else 13
+                yield 'lists', (report, 255, ones, offsets, enough), number
+            for offsets, length in itertools.product(bad, (0, enough - 1, enough + 1)):
+                yield 'bad lists and buffers', (report, 255, ones, offsets, length), 13
+            for offsets, number in itertools.product(bad, earlier):
+                report_then, ranks, mask, _, length = with_faults(book, function, report, {number}, 7 * v + variant)
+                yield 'bad lists after other faults', (report_then, ranks, mask, offsets, length), number
+        if v == 1:
+            yield 'lists', (report, 255, ones, (0,) * 65535, enough), 13
+
+
+def offset_lists(tests, function):
+    for s in tests.book.settings.values():
+        named = {}
+        for k, (what, request, number) in enumerate(offset_requests(tests.book, function, s)):
+            if what not in named:
+                named[what] = tests.begin(f'{function.name}: {what} of {tests.book.name_of(s)}')
+            tests.add(function, *request, k % 256, number, named[what])
+
+
+def altered(book, **methods):
+    """A stand-in for the codebook that has other methods in place of these."""
+    other = copy.copy(book)
+    other.__dict__.update(methods)
+    return other
+
+
+def with_lists(book, fit, taken):
+    """A stand-in that takes the lists that are `fit`, each for the list `taken` of it."""
+    def answer(function, report, offsets):
+        return book.answer(function, report, taken(book.setting_of(report), offsets))
+
+    return altered(book, unfit=lambda s, offsets: not fit(s, offsets), answer=answer)
+
+
+def with_sums(book, add):
+    """A stand-in whose phases are made by `add` from a phase, the list and the place of layer and port."""
+    def answer(function, report, offsets):
+        phases, P = numbers_in('H', book.answer_of(book.phases, report)), len(offsets)
+        return packed('H', [add(e, offsets, k // P, k % P) for k, e in enumerate(phases)])
+
+    return altered(book, answer=answer)
+
+
+def with_order(book, first, second):
+    """A stand-in that tries refusal `first` before `second`; only 10, 13 and 11 are among them."""
+    def refusal(function, report, ranks, mask, offsets, length):
+        number = book.refusal(function, report, ranks, mask, offsets, length)
+        s = book.settings.get(report[:book.numbers])
+        applies = number == second and (book.unfit(s, offsets) if first == 13 else length < needed(function, s, report.v))
+        return first if applies else number
+
+    return altered(book, refusal=refusal)
+
+
+# By what is wrong: the stand-in, of the codebook. Its answers are phases.
+MISTAKES = {
+    'offsets are left out': lambda book: with_sums(book, lambda e, o, layer, port: e),
+    'an offset for each layer': lambda book: with_sums(book, lambda e, o, layer, port: (e + o[layer % len(o)]) % TURN),
+    'offsets for the first layer alone':
+        lambda book: with_sums(book, lambda e, o, layer, port: (e + o[port] * (layer == 0)) % TURN),
+    'offsets of the ports in reverse': lambda book: with_sums(book, lambda e, o, layer, port: (e + o[-1 - port]) % TURN),
+    'offsets of the first half for both':
+        lambda book: with_sums(book, lambda e, o, layer, port: (e + o[port % (len(o) // 2)]) % TURN),
+    'offsets less that of the first port':
+        lambda book: with_sums(book, lambda e, o, layer, port: (e + o[port] - o[0]) % TURN),
+    'offsets taken away': lambda book: with_sums(book, lambda e, o, layer, port: (e - o[port]) % TURN),
+    'offsets counted in half parts': lambda book: with_sums(book, lambda e, o, layer, port: (e + 2 * o[port]) % TURN),
+    'sums not reduced': lambda book: with_sums(book, lambda e, o, layer, port: e + o[port]),
+    'sums of just a turn not reduced':
+        lambda book: with_sums(book, lambda e, o, layer, port: (e + o[port] - 1) % TURN + 1 if e + o[port] else 0),
+    'sums of 8 bits': lambda book: with_sums(book, lambda e, o, layer, port: (e + o[port]) % 256),
+    'offsets of 8 bits': lambda book: with_sums(book, lambda e, o, layer, port: (e + o[port] % 256) % TURN),
+    'a turn is taken for an offset': lambda book: with_lists(
+        book, lambda s, o: len(o) == s.P and max(o) <= TURN, lambda s, o: tuple(x % TURN for x in o)),
+    'a turn is taken in the last place': lambda book: with_lists(
+        book, lambda s, o: len(o) == s.P and max(o[:-1]) < TURN, lambda s, o: tuple(x % TURN for x in o)),
+    '383 is refused': lambda book: with_lists(book, lambda s, o: len(o) == s.P and max(o) < TURN - 1, lambda s, o: o),
+    'offsets are reduced': lambda book: with_lists(
+        book, lambda s, o: len(o) == s.P, lambda s, o: tuple(x % TURN for x in o)),
+    'offsets wrap at 65,536': lambda book: with_lists(
+        book, lambda s, o: len(o) == s.P and all((x + TURN) % 2 ** 16 < 2 * TURN for x in o),
+        lambda s, o: tuple((x + TURN) % 2 ** 16 % TURN for x in o)),
+    'a longer list is taken': lambda book: with_lists(
+        book, lambda s, o: len(o) >= s.P and max(o[:s.P]) < TURN, lambda s, o: o[:s.P]),
+    'a shorter list is taken': lambda book: with_lists(
+        book, lambda s, o: len(o) <= s.P and all(x < TURN for x in o), lambda s, o: (*o, *[0] * (s.P - len(o)))),
+    'no list is taken for offsets of 0': lambda book: with_lists(
+        book, lambda s, o: not o or not book.unfit(s, o), lambda s, o: o or (0,) * s.P),
+    '13 before 10': lambda book: with_order(book, 13, 10),
+    '11 before 13': lambda book: with_order(book, 11, 13)}
+
+
+def spoiled_offsets(tests):
+    """Each mistake is seen at every setting by what is sent for its offsets, and wrong phases also without the model."""
+    book = tests.book
+
+    def answered(book, request):
+        report, _, _, offsets, _ = request
+        number = book.refusal(book.phases, *request)
+        return number, b'' if number else book.answer(book.phases, report, offsets)
+
+    for s in book.settings.values():
+        tests.begin(f'mistakes with offsets are seen at {book.name_of(s)}')
+        unseen = {name: mistake(book) for name, mistake in MISTAKES.items()}
+        for _, request, _ in offset_requests(book, book.phases, s):
+            right = answered(book, request)
+            for name, other in list(unseen.items()):
+                wrong = answered(other, request)
+                if wrong != right:
+                    del unseen[name]
+                    if not wrong[0] and not right[0]:
+                        before, offsets = book.answer_of(book.phases, request[0]), request[3]
+                        tests.check(are_added(before, offsets, right[1]), f'{name}: the right phases look wrong')
+                        tests.check(not are_added(before, offsets, wrong[1]), f'{name}: the phases look right')
+            if not unseen:
+                break
+        tests.check(not unseen, f'unseen: {", ".join(unseen)}')
 
 
 # ---- The order of refusals -------------------------------------------------------------------------------------------
@@ -804,6 +1177,7 @@ def with_faults(book, function, report, faults, variant):
     """A request with these faults and no others, from a report in range; the variant picks the form of each fault."""
     s = book.setting_of(report)
     numbers, ranks, mask, length = report._asdict(), 255, book.ones(s), needed(function, s, report.v)
+    offsets = fixed_list(s)
 
     def form(number, *forms):
         return forms[variant // number % len(forms)]
@@ -831,9 +1205,13 @@ def with_faults(book, function, report, faults, variant):
         mask = form(10, bytes(len(mask)), book.ones_but(s, book.bits_of(report)[-1]))
     if 3 in faults:
         mask = form(3, mask[:-1], mask + b'\xff', b'', mask + mask)
+    if 13 in faults:
+        high = [with_offset(offsets, place, TURN) for place in (0, s.P // 2, s.P - 1)]
+        offsets = form(13, offsets[:-1], high[0], offsets + (0,), high[1], (), high[2], offsets + offsets,
+                       with_offset(offsets, s.P - 1, 65535))
     if 11 in faults:
         length = form(11, length - 1, 0)
-    return book.Report(**numbers), ranks, mask, length
+    return book.Report(**numbers), ranks, mask, offsets, length
 
 
 def orders(tests, function):
@@ -892,9 +1270,23 @@ def draw_mask(draw, book, report, s):
         mask = draw.getrandbits(bits) | draw.getrandbits(bits) | draw.getrandbits(bits)
     else:
         mask = draw.getrandbits(bits) & draw.getrandbits(bits) if x < 0.98 else 0
-        if x < 0.94 and not book.refusal(book.phases, report, 255, book.ones(s), 1 << 16):
+        if x < 0.94 and not book.refusal(book.phases, report, 255, book.ones(s), fixed_list(s), 1 << 16):
             mask |= sum(1 << k for k in book.bits_of(report)) & every
     return mask.to_bytes(length, 'little')
+
+
+def draw_offsets(draw, book, s):
+    """Offsets: drawn, of 0 or fixed; some lists have a number at the bound or above, and some another length."""
+    x = draw.random()
+    offsets = (0,) * s.P if x < 0.15 else fixed_list(s) if x < 0.30 else draw_list(draw, s)
+    x, place = draw.random(), int(draw.random() * s.P)
+    if x < 0.06:
+        return with_offset(offsets, place, draw.choice((TURN, TURN + int(draw.random() * (2 ** 16 - TURN)), *HIGH)))
+    if x < 0.12:
+        return with_offset(offsets, place, TURN - 1)
+    if x < 0.16:
+        return draw.choice((offsets[:-1], offsets + (0,), (), offsets * 2, offsets[:place]))
+    return offsets
 
 
 def draw_request(draw, book, function):
@@ -920,7 +1312,7 @@ def draw_request(draw, book, function):
         length -= 1 + int(draw.random() * min(4, length))
     elif x < 0.50:
         length = int(draw.random() * 600 * function.parts)
-    return report, ranks, draw_mask(draw, book, report, s), length
+    return report, ranks, draw_mask(draw, book, report, s), draw_offsets(draw, book, s), length
 
 
 def random_requests(tests, function):
@@ -952,12 +1344,12 @@ def main(book, held, about, words):
     # Millions of tuples are kept, and none is in a cycle.
     gc.disable()
     tests = Tests(book)
-    for part in (*held, weights_of_phases, count_rule, spoiled_beams):
+    for part in (*held, weights_of_phases, count_rule, spoiled_beams, spoiled_offsets):
         part(tests)
     every_report(tests, words)
     for function in book.functions:
         for part in (beam_masks, rank_masks, not_settings, modes, mask_lengths, rank_bounds, index_bounds,
-                     buffer_lengths, orders, random_requests):
+                     buffer_lengths, offset_lists, orders, random_requests):
             part(tests, function)
         tests.run(words)
         tests.clear()

@@ -10,10 +10,11 @@ Needs Python 3.9; takes about a minute. tests/panels builds the program and star
 Where the expected answers come from
 ------------------------------------
 Phases: a layer is computed in complex numbers as the standard prints it, with its factor 1/sqrt(P), block by block: a
-product of phi, a_p and b_n, each an exponential, times v_{l,m}. The phase of an entry is read off its angle in 1/192
+product of phi, a_p and b_n, each an exponential, times v_{l,m}. The phase of an entry is read off its angle in 1/384
 turns. No phase is computed in whole numbers. The factor 1/sqrt(v) of the whole matrix turns no entry.
 Weights: the same complex entries without their factor, times 16384, each part taken to the nearest whole number, not by
 way of the phase.
+Offsets: the entry of each port, of size 1, times exp(j 2 pi o / 384) for its offset o, as precoder.py says.
 Beams: of the v_{l,m} of each layer, the (l,m) of the mask bit that stands for the same entries. No l or m is reduced by
 arithmetic.
 
@@ -35,18 +36,20 @@ From 000:
   - the mask bits: how many, and which of them bars which precoder; bit v-1 of the rank mask, r_{v-1}, which has four.
 From 003: k1 and k2 of 2 layers (Table 5.2.2.2.1-3), to which 000 refers; 01 has the same rows.
 From 01, where 000 is silent: the refusals but for what stands below; that an index without use, here i13 with 1 layer,
-has the value 0 alone; records, the bytes of masks, 1/192 turns, weights and buffers, as precoder.py says.
+has the value 0 alone; records, the bytes of masks, weights and buffers, as precoder.py says.
 From 02, where 000 is silent: that i14 and i2 are three numbers each, and those without use are 0; refusal 12, of a number
 of i14, between 8 and 9; that 1 covers Ng, 2 mode 2 with four panels, and 4 a rank above 4; that the record names the beam
-of each layer, which is that of one panel, and that unused places and all those of a refused report have (0,0).
+of each layer, which is that of one panel, and that unused places and all those of a refused report have (0,0); 1/384 turns,
+and offsets, one for each of the P ports of all panels, as precoder.py says.
 
 What is sent and what is asked of the answers
 ---------------------------------------------
-harness.py says it. Longer and shorter buffers and masks are tried for one report of 32, another one of each 32 in turn;
-where only 8 or 16 reports have the same i11, i12 and i13, for one of these. So every i11, i12 and i13 is among them,
-which is tested.
+harness.py says it. Longer and shorter buffers, drawn lists of offsets and masks are tried for one report of 32, another
+one of each 32 in turn; where only 8 or 16 reports have the same i11, i12 and i13, for one of these. So every i11, i12 and
+i13 is among them, which is tested.
 Numbers that are no setting are all up to 9 x 17 x 9, and others.
-Reports have only phases that are multiples of 6, which is tested. The weights of the other phases are in no answer.
+With offsets of 0 reports have only phases that are multiples of 12, which is tested. With lists of offsets they have all
+384, which is tested too.
 """
 
 import cmath
@@ -55,7 +58,8 @@ import functools
 import math
 import sys
 
-from harness import TURN, Codebook, Known, functions, layers_in, main, near, pairs_in, places_of
+from harness import (DRAWN, FIXED, TURN, ZEROS, Codebook, Figures, Known, fixed_list, functions, layers_in, main, near,
+                     numbers_in, pairs_in, places_of, turned)
 from precoder import Beam, bits_of_beam, block, mask_bits, pair_of, phases_of_beams, phi, table_3, v_beam
 
 # ---- Settings --------------------------------------------------------------------------------------------------------
@@ -135,15 +139,21 @@ def coefficients(upper, p, n):
     return COEFFICIENTS[upper](p, n)
 
 
+PHASES, WEIGHTS = FUNCTIONS = functions('panel_', 2)
+
+
 class Layers(dict):
-    """The layers W of some upper numbers and one beam, their phases and their weights: by p, n as one tuple."""
+    """The layers W of some upper numbers and one beam, by p, n as one tuple: the phases and the weights with offsets of 0,
+    and those with the fixed list of the setting."""
 
     def __init__(self, s, upper, beam):
         self.s, self.upper, self.beam = s, upper, beam
 
     def __missing__(self, p_and_n):
         blocks = [block(self.s, 1, x, self.beam) for x in coefficients(self.upper, p_and_n[:3], p_and_n[3:])]
-        self[p_and_n] = tuple(map(b''.join, zip(*blocks)))
+        phases, weights = map(b''.join, zip(*blocks))
+        fixed = [turned(phases, fixed_list(self.s), function) for function in FUNCTIONS]
+        self[p_and_n] = phases, weights, *fixed
         return self[p_and_n]
 
 
@@ -173,12 +183,13 @@ def columns(Ng, N1, N2, mode, v, i11, i12, i13):
     return Columns(layers, tuple(sorted(read)), places_of([pair_of(s, beams[primed]) for _, primed in COLUMNS[v]]))
 
 
-PHASES, WEIGHTS = FUNCTIONS = functions('panel_', 2)
-
-
-def answer_of(function, report):
-    part, p_and_n = FUNCTIONS.index(function), report[8:]
+def answer_of(function, report, fixed=False):
+    part, p_and_n = FUNCTIONS.index(function) + len(FUNCTIONS) * fixed, report[8:]
     return b''.join([layers[p_and_n][part] for layers in columns(*report[:8]).layers])
+
+
+def fixed_of(function, report):
+    return answer_of(function, report, fixed=True)
 
 
 # ---- Ranges (headings of Tables 5.2.2.2.2-3 to -6) -------------------------------------------------------------------
@@ -228,11 +239,15 @@ MULTI = Codebook(
     refusals={'i11': 6, 'i12': 7, 'i13': 8, 'i141': 12, 'i142': 12, 'i143': 12, 'i20': 9, 'i21': 9, 'i22': 9},
     values=values, mask_bits=mask_bits, bits_of=lambda report: columns(*report[:8]).bits,
     beams_of=lambda report: columns(*report[:8]).beams, first_rows=lambda s, v: phases_of_beams(s), answer_of=answer_of,
+    fixed_of=fixed_of,
     below=(10, 18, 10), extremes=[0, 2, 4, 258, 65537, 2 ** 31, 2 ** 31 + 1, 2 ** 32 - 1], near_misses=near_misses,
     drawn=120_000, draw_numbers=draw_numbers, listed=lambda s, mode, v: REPORTS_IN_RANGE[s[:3]][mode - 1][v - 1],
     among=lambda s, mode, v: min(32, of_one_beam(s, mode, v)),
-    known=Known(reports=570_752, phases=42_340_864, layers=1_509_056, pairs=1_548_352, reached={*range(0, TURN, 6)},
-                part=194_816, lowest=-11_006, highest=6_213, apart=68_876, apart_at=((2, 4, 1), 4)))
+    known=Known(reports=570_752, phases=42_340_864, layers=1_509_056, pairs=1_548_352, reached={*range(0, TURN, 12)},
+                figures={ZEROS: Figures(194_816, -11_006, 6_213, 68_876, ((2, 4, 1), 4)),
+                         FIXED: Figures(157_597, -17_304, 15_121, 129_700, ((2, 8, 1), 4)),
+                         DRAWN: Figures(209_848, -17_304, 15_121, 129_700, ((2, 2, 1), 4))},
+                part_of_any_list=518_800))
 
 
 def part_of_range(tests):
@@ -246,15 +261,17 @@ def part_of_range(tests):
 # ---- Reports worked out by hand from 000, held against the model -----------------------------------------------------
 
 def worked_cases(tests):
-    def number(setting, mode, v, mask=None, **indices):
+    def number(setting, mode, v, mask=None, offsets=None, length=1000, **indices):
         s = SETTINGS.get(setting)
         report = Report(*setting, mode, v, *[0] * 9)._replace(**indices)
         mask = (MULTI.ones(s) if s else b'\xff') if mask is None else mask
-        return MULTI.refusal(PHASES, report, 255, mask, 1000)
+        offsets = ((0,) * s.P if s else ()) if offsets is None else offsets
+        return MULTI.refusal(PHASES, report, 255, mask, offsets, length)
 
-    def layers(setting, mode, v, **indices):
-        phases = answer_of(PHASES, Report(*setting, mode, v, *[0] * 9)._replace(**indices))
-        return [list(layer) for layer in layers_in(phases, v)]
+    def layers(setting, mode, v, offsets=None, **indices):
+        report = Report(*setting, mode, v, *[0] * 9)._replace(**indices)
+        phases = MULTI.answer(PHASES, report, offsets or (0,) * SETTINGS[setting].P)
+        return [[*numbers_in('H', layer)] for layer in layers_in(phases, v)]
 
     def beams(setting, mode, v, **indices):
         """Those of the layers, and what else is not (0,0)."""
@@ -266,25 +283,32 @@ def worked_cases(tests):
         tests.check(all(facts), f'its facts hold: {facts}')
 
     case('two panels, mode 1',
-         layers((2, 2, 1), 1, 1, i11=1, i141=1, i20=1) == [[0, 24, 48, 72, 48, 72, 96, 120]])
+         layers((2, 2, 1), 1, 1, i11=1, i141=1, i20=1) == [[0, 48, 96, 144, 96, 144, 192, 240]])
     case('two panels, mode 2: a_1 b_1 is half a turn, a_3 b_0 three quarters',
-         layers((2, 2, 1), 2, 1, i11=1, i141=1, i142=3, i20=3, i21=1) == [[0, 24, 144, 168, 96, 120, 144, 168]])
+         layers((2, 2, 1), 2, 1, i11=1, i141=1, i142=3, i20=3, i21=1) == [[0, 48, 288, 336, 192, 240, 288, 336]])
     case('four panels, each with both polarisations',
          layers((4, 2, 1), 1, 1, i141=1, i142=2, i143=3, i20=1)
-         == [[0, 0, 48, 48, 48, 48, 96, 96, 96, 96, 144, 144, 144, 144, 0, 0]])
+         == [[0, 0, 96, 96, 96, 96, 192, 192, 192, 192, 288, 288, 288, 288, 0, 0]])
     beams_7_and_3 = {'i11': 7, 'i13': 1, 'i141': 3, 'i20': 1}
     case('two layers, of beams 7 and 11, which is 3',
          layers((2, 2, 1), 1, 2, **beams_7_and_3)
-         == [[0, 168, 48, 24, 144, 120, 0, 168], [0, 72, 144, 24, 144, 24, 96, 168]],
+         == [[0, 336, 96, 48, 288, 240, 0, 336], [0, 144, 288, 48, 288, 48, 192, 336]],
          beams((2, 2, 1), 1, 2, **beams_7_and_3) == [(7, 0), (3, 0)],
          number((2, 2, 1), 1, 2, b'\x88', **beams_7_and_3) == 0, number((2, 2, 1), 1, 2, b'\xf7', **beams_7_and_3) == 10,
          number((2, 2, 1), 1, 2, b'\x7f', **beams_7_and_3) == 10)
+    case('offsets, one for each port of both panels',
+         layers((2, 2, 1), 1, 2, (383, 48, 0, 1, 96, 143, 144, 47), **beams_7_and_3)
+         == [[383, 0, 96, 49, 0, 383, 144, 383], [383, 192, 288, 49, 0, 191, 336, 383]],
+         number((2, 2, 1), 1, 1, offsets=(383,) * 8) == 0, number((2, 2, 1), 1, 1, offsets=(*[0] * 7, 384)) == 13,
+         number((2, 2, 1), 1, 1, offsets=(0,) * 4) == 13, number((2, 2, 1), 1, 1, offsets=(0,) * 9) == 13,
+         number((2, 2, 1), 1, 1, offsets=()) == 13, number((4, 2, 1), 1, 1, offsets=(0,) * 8) == 13)
     case('four layers, k = (O1, O2)',
          layers((2, 2, 2), 1, 4, i13=2)
-         == [[0] * 16, [0, 96, 96, 0] * 4, [0, 0, 0, 0, 96, 96, 96, 96] * 2, [0, 96, 96, 0, 96, 0, 0, 96] * 2],
+         == [[0] * 16, [0, 192, 192, 0] * 4, [0, 0, 0, 0, 192, 192, 192, 192] * 2,
+             [0, 192, 192, 0, 192, 0, 0, 192] * 2],
          beams((2, 2, 2), 1, 4, i13=2) == [(0, 0), (4, 4), (0, 0), (4, 4)])
     case('three layers, k = (0, O2) in row 1',
-         layers((2, 2, 2), 1, 3, i13=1)[1] == [0, 96] * 8, layers((2, 4, 2), 1, 3, i13=1)[1] == [0, 96] * 16,
+         layers((2, 2, 2), 1, 3, i13=1)[1] == [0, 192] * 8, layers((2, 4, 2), 1, 3, i13=1)[1] == [0, 192] * 16,
          beams((2, 4, 2), 1, 3, i12=6, i13=1) == [(0, 6), (0, 2), (0, 6)])
     case('beams of one panel', beams((4, 4, 1), 1, 1, i11=15) == [(15, 0)],
          beams((2, 8, 1), 2, 4, i11=20, i13=3) == [(20, 0), (4, 0), (20, 0), (4, 0)],
@@ -312,6 +336,9 @@ def worked_cases(tests):
          number((2, 2, 1), 2, 1, i22=2) == 9, number((2, 2, 1), 2, 2, i20=2) == 9)
     case('12 stands between 8 and 9', number((2, 2, 1), 1, 1, i13=1, i142=1) == 8,
          number((2, 2, 1), 1, 1, i142=1, i21=1) == 12)
+    case('13 stands between 10 and 11', number((2, 2, 1), 1, 1, b'\xfe', offsets=(384,) * 8) == 10,
+         number((2, 2, 1), 1, 1, offsets=(384,) * 8, length=7) == 13, number((2, 2, 1), 1, 1, offsets=(), length=0) == 13,
+         number((2, 2, 1), 1, 1, length=7) == 11, number((2, 2, 1), 1, 1, offsets=(), i142=1) == 12)
 
 
 if __name__ == '__main__':

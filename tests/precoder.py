@@ -10,10 +10,12 @@ Needs Python 3.9; takes about a minute. tests/calls builds the program and start
 Where the expected answers come from
 ------------------------------------
 Phases: the matrix W of a report is computed in complex numbers as the standard prints it, with its factor 1/sqrt(v P);
-the phase of an entry is read off its angle in 1/192 turns. No phase is computed in whole numbers.
+the phase of an entry is read off its angle in 1/384 turns. No phase is computed in whole numbers.
 Weights: the same complex entries without their factor, times 16384, each part taken to the nearest whole number, not by
-way of the phase. No part is near a tie, and for all 192 phases the numbers are those of table.py, in 60 digits. Nothing
+way of the phase. No part is near a tie, and for all 384 phases the numbers are those of table.py, in 60 digits. Nothing
 is taken from the library's table.
+Offsets: the entry of each port, of size 1, times exp(j 2 pi o / 384) for its offset o; phases and weights are read off the
+product. harness.py does so, once for each phase and offset.
 Beams: of the v_{l,m} of each column of W, the (l,m) of the mask bit that stands for the same entries; no l or m is reduced
 by arithmetic. Of a v~_{l,m}, (2l,m).
 
@@ -43,9 +45,11 @@ From 01, where the sources are silent:
     and that they have a rank mask;
   - that an index without use has the value 0 alone;
   - the bytes of a mask: bit k is bit k mod 8 of byte k / 8, and there are exactly as many bytes as the bits fill;
-  - phases in 1/192 turns; weights, of radius 16384, x then y; the order of a buffer, layer after layer, how long it
-    must be, and that what the answer does not need stays as lent.
+  - weights, of radius 16384, x then y; the order of a buffer, layer after layer, how long it must be, and that what the
+    answer does not need stays as lent.
 From 02, where the sources are silent:
+  - phases in 1/384 turns, as numbers of 16 bits; a list of P offsets, 0 to 383, each added to its port in every layer;
+    refusal 13, of a list of another length or with a higher number, between 10 and 11;
   - that the record names the beam of each layer, in the order of the columns, and again one that another layer has;
   - that a half-length layer, of v~_{l,m}, has (2l,m);
   - that unused places, all those of a refused report and all those of two ports have (0,0).
@@ -63,10 +67,10 @@ From 01, where 003 differs from it:
 
 What is sent and what is asked of the answers
 ---------------------------------------------
-harness.py says it; longer and shorter buffers and masks are tried for every report. Numbers that are no setting are all
-pairs up to 33 x 33, and others.
-Reports have only phases that are multiples of 3 or 4, which is tested. The weights of the other 96 phases are in no
-answer, so that a mistake in one of them goes unseen here; table.py checks them in the source.
+harness.py says it; longer and shorter buffers, drawn lists of offsets and masks are tried for every report. Numbers that
+are no setting are all pairs up to 33 x 33, and others.
+With offsets of 0 reports have only phases that are multiples of 6 or 8, which is tested. With lists of offsets they have
+all 384, which is tested too, so that no weight goes unseen.
 """
 
 import cmath
@@ -76,7 +80,8 @@ import itertools
 import math
 import sys
 
-from harness import TURN, Codebook, Known, functions, main, near, pairs_in, places_of, read_off
+from harness import (DRAWN, FIXED, TURN, ZEROS, Codebook, Figures, Known, fixed_list, functions, main, near, numbers_in,
+                     packed, pairs_in, places_of, read_off, turned)
 
 # ---- Settings --------------------------------------------------------------------------------------------------------
 
@@ -330,7 +335,7 @@ def pair_of(s, beam):
 def phases_of_beams(s):
     """By (l,m), the phases of v_{l,m}, or of the single entry of two ports."""
     if s.P == 2:
-        return {(0, 0): b'\0'}
+        return {(0, 0): packed('H', [0])}
     return {divmod(bit, s.N2 * s.O2): phases for phases, bit in bit_by_phases(s).items()}
 
 
@@ -437,6 +442,11 @@ def answer_of(function, report):
     return precoder(report).phases if function is PHASES else precoder(report).weights
 
 
+@functools.lru_cache(maxsize=None)
+def fixed_of(function, report):
+    return turned(precoder(report).phases, fixed_list(SETTINGS[report.N1, report.N2]), function)
+
+
 def near_misses(s):
     return [(s.N1 + 256, s.N2), (s.N1, s.N2 + 4), (s.N1, 0), (2 ** 31 + s.N1, s.N2)]
 
@@ -450,25 +460,31 @@ SINGLE = Codebook(
     functions=FUNCTIONS, Report=Report, settings=SETTINGS, most_layers=8, modes_of=lambda s: MODES, ranks_of=ranks_of,
     refusals={'i11': 6, 'i12': 7, 'i13': 8, 'i2': 9}, values=values, mask_bits=mask_bits,
     bits_of=lambda report: precoder(report).bits, beams_of=lambda report: precoder(report).beams, first_rows=first_rows,
-    answer_of=answer_of, below=(34, 34),
+    answer_of=answer_of, fixed_of=fixed_of, below=(34, 34),
     extremes=[0, 1, 2, 4, 255, 256, 258, 65535, 65536, 65537, 2 ** 30, 2 ** 31 - 1, 2 ** 31, 2 ** 31 + 1, 2 ** 32 - 2,
               2 ** 32 - 1],
     near_misses=near_misses, draw_numbers=draw_numbers, drawn=240_000, listed=listed, among=lambda s, mode, v: 1,
     known=Known(reports=78_892, phases=6_387_360, layers=266_128, pairs=471_268,
-                reached={e for e in range(TURN) if e % 3 == 0 or e % 4 == 0}, part=207_900, lowest=-17_126,
-                highest=15_121, apart=142_504, apart_at=((4, 3), 8)))
+                reached={e for e in range(TURN) if e % 6 == 0 or e % 8 == 0},
+                figures={ZEROS: Figures(207_900, -17_126, 15_121, 142_504, ((4, 3), 8)),
+                         FIXED: Figures(144_126, -17_304, 15_121, 259_400, ((8, 2), 8)),
+                         DRAWN: Figures(198_681, -17_304, 15_121, 259_400, ((2, 2), 8))},
+                part_of_any_list=518_800))
 
 
 # ---- The worked cases of 01 and 02, held against the model -----------------------------------------------------------
 
 def worked_cases(tests):
-    def number(report, mask=None, length=1000, function=PHASES):
-        mask = SINGLE.ones(SETTINGS[report[:2]]) if mask is None else mask
-        return SINGLE.refusal(function, Report(*report), 255, mask, length)
+    def number(report, mask=None, offsets=None, length=1000, function=PHASES):
+        s = SETTINGS[report[:2]]
+        mask = SINGLE.ones(s) if mask is None else mask
+        offsets = (0,) * s.P if offsets is None else offsets
+        return SINGLE.refusal(function, Report(*report), 255, mask, offsets, length)
 
-    def layer(k, report):
+    def layer(k, report, offsets=None):
         ports = SETTINGS[report[:2]].P
-        return list(precoder(Report(*report)).phases[(k - 1) * ports:k * ports])
+        phases = numbers_in('H', SINGLE.answer(PHASES, Report(*report), offsets or (0,) * ports))
+        return list(phases[(k - 1) * ports:k * ports])
 
     def beams(report):
         """Those of the layers, and what else is not (0,0)."""
@@ -484,20 +500,20 @@ def worked_cases(tests):
         return fact(1) and fact(2)
 
     one_layer, two_layers, beam_9 = (2, 1, 1, 1, 1, 0, 0, 1), (2, 1, 1, 2, 7, 0, 1, 0), (2, 1, 2, 1, 3, 0, 0, 15)
-    case(1, number(one_layer) == 0, layer(1, one_layer) == [0, 24, 48, 72], beams(one_layer) == [(1, 0)])
-    case(2, number(two_layers) == 0, layer(1, two_layers) == [0, 168, 0, 168],
-         layer(2, two_layers) == [0, 72, 96, 168], beams(two_layers) == [(7, 0), (3, 0)])
-    case(3, number(beam_9) == 0, layer(1, beam_9) == [0, 24, 144, 168], number(beam_9, mask=b'\xfd') == 10,
+    case(1, number(one_layer) == 0, layer(1, one_layer) == [0, 48, 96, 144], beams(one_layer) == [(1, 0)])
+    case(2, number(two_layers) == 0, layer(1, two_layers) == [0, 336, 0, 336],
+         layer(2, two_layers) == [0, 144, 192, 336], beams(two_layers) == [(7, 0), (3, 0)])
+    case(3, number(beam_9) == 0, layer(1, beam_9) == [0, 48, 288, 336], number(beam_9, mask=b'\xfd') == 10,
          beams(beam_9) == [(1, 0)])
     thirds = layer(1, (3, 2, 1, 3, 0, 0, 3, 0)), layer(2, (3, 2, 1, 3, 0, 0, 3, 0))
-    case(4, both(lambda mode: layer(2, (3, 2, mode, 3, 0, 0, 3, 0)) == [0, 0, 128, 128, 64, 64] * 2),
+    case(4, both(lambda mode: layer(2, (3, 2, mode, 3, 0, 0, 3, 0)) == [0, 0, 256, 256, 128, 128] * 2),
          both(lambda mode: beams((3, 2, mode, 3, 0, 0, 3, 0)) == [(0, 0), (8, 0), (0, 0)]),
-         collections.Counter((y - x) % TURN for x, y in zip(*thirds)) == {0: 4, 64: 4, 128: 4})
+         collections.Counter((y - x) % TURN for x, y in zip(*thirds)) == {0: 4, 128: 4, 256: 4})
     case(5, both(lambda mode: layer(1, (8, 1, mode, 3, 1, 0, 1, 1)) ==
-                 [0, 12, 24, 36, 24, 36, 48, 60, 48, 60, 72, 84, 72, 84, 96, 108]),
+                 [0, 24, 48, 72, 48, 72, 96, 120, 96, 120, 144, 168, 144, 168, 192, 216]),
          both(lambda mode: beams((8, 1, mode, 3, 1, 0, 1, 1)) == [(2, 0)] * 3))
-    case(6, both(lambda mode: layer(1, (1, 1, mode, 2, 0, 0, 0, 1)) == [0, 48]),
-         both(lambda mode: layer(2, (1, 1, mode, 2, 0, 0, 0, 1)) == [0, 144]),
+    case(6, both(lambda mode: layer(1, (1, 1, mode, 2, 0, 0, 0, 1)) == [0, 96]),
+         both(lambda mode: layer(2, (1, 1, mode, 2, 0, 0, 0, 1)) == [0, 288]),
          both(lambda mode: beams((1, 1, mode, 2, 0, 0, 0, 1)) == [(0, 0), (0, 0)]),
          both(lambda mode: number((1, 1, mode, 2, 0, 0, 0, 2)) == 9))
     case(7, both(lambda mode: number((4, 1, mode, 7, 7, 0, 0, 0)) == 0),
@@ -521,6 +537,16 @@ def worked_cases(tests):
          beams((2, 2, 1, 4, 7, 7, 2, 0)) == [(7, 7), (3, 3), (7, 7), (3, 3)])
     case('of half-length beams', beams((4, 4, 1, 4, 7, 15, 3, 1)) == [(14, 15)] * 4,
          beams((8, 2, 2, 3, 0, 5, 0, 0)) == [(0, 5)] * 3, beams((8, 1, 1, 2, 3, 0, 0, 0)) == [(3, 0), (3, 0)])
+
+    case('of offsets', layer(1, one_layer, (0, 383, 288, 241)) == [0, 47, 0, 1],
+         layer(1, two_layers, (5, 48, 383, 47)) == [5, 0, 383, 383],
+         layer(2, two_layers, (5, 48, 383, 47)) == [5, 192, 191, 383],
+         number(one_layer, offsets=(0, 0, 0, 383)) == 0, number(one_layer, offsets=(0, 0, 0, 384)) == 13,
+         number(one_layer, offsets=(65535, 0, 0, 0)) == 13, number(one_layer, offsets=(0, 0, 0)) == 13,
+         number(one_layer, offsets=(0, 0, 0, 0, 0)) == 13, number(one_layer, offsets=()) == 13)
+    case('of offsets in their order', number(beam_9, mask=b'\xfd', offsets=(384, 0, 0, 0)) == 10,
+         number(one_layer, offsets=(0, 0, 0), length=3) == 13, number(one_layer, offsets=(0, 384, 0, 0), length=3) == 13,
+         number(one_layer, offsets=(383, 0, 0, 0), length=3) == 11, number((2, 1, 1, 2, 8, 0, 1, 0), offsets=()) == 6)
 
     def barring(report):
         """The bits that bar a report when each is the only zero."""

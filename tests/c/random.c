@@ -14,17 +14,23 @@ void *memcpy(void *, const void *, size_t);
 int memcmp(const void *, const void *, size_t);
 
 enum { PHASES, WEIGHTS, PANEL_PHASES, PANEL_WEIGHTS, FUNCTIONS };
-static const struct { const char *name; int panels, weights; uint32_t refusals; } functions[FUNCTIONS] = {
-    [PHASES] = {"phases", 0, 0, 11},
-    [WEIGHTS] = {"weights", 0, 1, 11},
-    [PANEL_PHASES] = {"panel_phases", 1, 0, 12},
-    [PANEL_WEIGHTS] = {"panel_weights", 1, 1, 12},
+static const struct { const char *name; int panels, weights; } functions[FUNCTIONS] = {
+    [PHASES] = {"phases", 0, 0},
+    [WEIGHTS] = {"weights", 0, 1},
+    [PANEL_PHASES] = {"panel_phases", 1, 0},
+    [PANEL_WEIGHTS] = {"panel_weights", 1, 1},
 };
 
 // No outcome is to be rarer than one request in RAREST.
-enum { REFUSALS = 12, RAREST = 200, TURN = 192 };
+enum { REFUSALS = 13, RAREST = 200, TURN = 384 };
 static const uint32_t SQUARED = 16384 * 16384, POWER_LIMIT = 32768;
-enum { MOST = 600, GUARD = 32, PLACES = 64, ROOM = PLACES + GUARD + 2 * MOST + GUARD + 8 };
+// A buffer and a list of offsets have at most MOST numbers, and a mask at most so many bytes.
+enum { WIDTH = sizeof(uint16_t), MOST = 600, GUARD = 32, PLACES = 64, ROOM = PLACES + GUARD + WIDTH * MOST + GUARD + 8 };
+
+// Whether a refusal is one of the codebook's.
+static int known(int function, uint32_t refusal) {
+    return refusal <= REFUSALS && (refusal != ASPENFLICK_I14_RANGE || functions[function].panels);
+}
 
 // The generator is splitmix64.
 static uint64_t state;
@@ -38,12 +44,12 @@ static uint64_t draw(void) {
 
 static uint32_t below(uint32_t bound) { return (uint32_t)((draw() >> 32) * bound >> 32); }
 
-// What is asked in one call, but for the bits of the beam mask. The buffer's length counts bytes or 16-bit numbers. For
-// the single panel Ng is 1 and the first number of i2 alone is given.
+// What is asked in one call, but for the bits of the beam mask and the offsets. The lengths of the offsets and of the buffer
+// count 16-bit numbers. For the single panel Ng is 1 and the first number of i2 alone is given.
 typedef struct {
     aspenflick_panel_report report;
     uint8_t ranks;
-    size_t mask_len, out_len;
+    size_t mask_len, offsets_len, out_len;
 } request;
 
 // Those of the single panel, and then those of several.
@@ -122,6 +128,7 @@ static request any_request(int function) {
     }
     uint32_t mask_bits = ports > 2 ? 4 * n1 * (n2 > 1 ? 4 * n2 : 1) : 8;
     q.mask_len = vary_length(mask_bits / 8, chances);
+    q.offsets_len = vary_length(ports, 128);
     q.out_len = vary_length(v * ports * (functions[function].weights ? 2 : 1), 32);
     return q;
 }
@@ -141,9 +148,9 @@ static int same_guards(const loan *a, const loan *b, extent e) {
     return !memcmp(x, y, GUARD) && !memcmp(x + GUARD + e.len, y + GUARD + e.len, GUARD);
 }
 
-// Fills a loan with random bytes. Guards hold nothing that the function answers, so that no number written there goes
-// unseen: no phase is 192 or above, and the upper byte of a weight is at most 64 or at least 192.
-static void fill(loan *l, extent e, int function) {
+// Fills a loan with random bytes. Guards hold nothing that a function answers, so that no number written there goes unseen:
+// the upper byte of a phase is at most 1, and that of a weight at most 64 or at least 192.
+static void fill(loan *l, extent e) {
     uint8_t *at = l->room + e.start;
     for (size_t i = 0; i < whole(e); i += sizeof(uint64_t)) {
         uint64_t word = draw();
@@ -151,8 +158,8 @@ static void fill(loan *l, extent e, int function) {
     }
     for (size_t i = 0; i < GUARD; i++) {
         uint8_t *before = at + i, *behind = at + GUARD + e.len + i;
-        *before = (uint8_t)(*before % 64 + (functions[function].weights ? 96 : 192));
-        *behind = (uint8_t)(*behind % 64 + (functions[function].weights ? 96 : 192));
+        *before = (uint8_t)(*before % 64 + 96);
+        *behind = (uint8_t)(*behind % 64 + 96);
     }
 }
 
@@ -168,10 +175,22 @@ static void make_mask(uint8_t *bits, size_t len) {
     }
 }
 
+// Mostly any phases, or all the least or all the greatest; in some lists one is a turn or more, at either end or anywhere.
+static void make_offsets(uint16_t *offsets, size_t len) {
+    static const uint16_t above[] = {TURN, TURN, TURN, TURN + 1, TURN + 256, 2 * TURN, 32768, 65535 - TURN, 65535, 65535};
+    uint32_t kind = below(8);
+    for (size_t i = 0; i < len; i++) offsets[i] = (uint16_t)(kind == 0 ? 0 : kind == 1 ? TURN - 1 : (int)below(TURN));
+    if (len && below(8) == 0) {
+        const size_t places[] = {0, len - 1, below((uint32_t)len)};
+        uint16_t any = (uint16_t)(TURN + below(65536 - TURN));
+        offsets[places[below(3)]] = below(4) ? above[below(sizeof above / sizeof *above)] : any;
+    }
+}
+
 // The checks, each counted for itself.
 enum {
     KNOWN, ZEROS, NO_BEAM, AS_LENT, RECORD, BEAMS_BEHIND, IN_RANGE, NOT_BARRED, LEGAL, BEHIND, REPEATED, OUT_GUARDS,
-    MASK_GUARDS, MASK_AS_LENT, BASELINE_RECORD, BASELINE_OUT, CHECKS
+    MASK_GUARDS, MASK_AS_LENT, OFFSETS_GUARDS, OFFSETS_AS_LENT, BASELINE_RECORD, BASELINE_OUT, CHECKS
 };
 static const char *const check_names[CHECKS] = {
     [KNOWN] = "the refusal is 0 or one of the codebook's",
@@ -188,46 +207,66 @@ static const char *const check_names[CHECKS] = {
     [OUT_GUARDS] = "the buffer's guards stand",
     [MASK_GUARDS] = "the mask's guards stand",
     [MASK_AS_LENT] = "the mask is as lent",
+    [OFFSETS_GUARDS] = "the offsets' guards stand",
+    [OFFSETS_AS_LENT] = "the offsets are as lent",
     [BASELINE_RECORD] = "the record is that of the version by hand",
     [BASELINE_OUT] = "the buffer is that of the version by hand",
 };
 
-// Faults, seeded into some calls, each with the check that has to see it; MIDDLE_ALONE and NOT_DOUBLED are for the single
-// panel alone, and the last two are for several panels.
+// Faults, seeded into some calls, each with the check that has to see it and the functions it is for.
+enum { OF_PHASES = 1 << PHASES, OF_WEIGHTS = 1 << WEIGHTS, SINGLE = OF_PHASES | OF_WEIGHTS };
+enum { OF_PANEL_PHASES = 1 << PANEL_PHASES, OF_PANEL_WEIGHTS = 1 << PANEL_WEIGHTS };
+enum { SEVERAL = OF_PANEL_PHASES | OF_PANEL_WEIGHTS, BOTH_PHASES = OF_PHASES | OF_PANEL_PHASES, ALL = SINGLE | SEVERAL };
 enum {
     NONE, UNKNOWN_REFUSAL, PORTS_ON_REFUSAL, BEAM_ON_REFUSAL, BYTE_ON_REFUSAL, WRONG_SCALE, BEAM_TOO_MANY, NOT_REDUCED,
     NEXT_BEAM, NO_ENTRY, PAST_ANSWER, NOT_WRITTEN, BEFORE_OUT, BEHIND_OUT, BEFORE_MASK, BEHIND_MASK, MASK_BYTE,
-    OTHER_ORDER, LEFT_OUT, FIRST_BEAM, OTHER_ENTRY, MIDDLE_ALONE, NOT_DOUBLED, OTHER_PANEL_ORDER, OTHER_PANEL, FAULTS
+    BEFORE_OFFSETS, BEHIND_OFFSETS, OFFSETS_BYTE, OTHER_ORDER, LEFT_OUT, FIRST_BEAM, OTHER_ENTRY, MIDDLE_ALONE, NOT_DOUBLED,
+    OTHER_PANEL_ORDER, OTHER_PANEL, OFFSETS_FIRST, OFFSETS_LAST, LONGER_LIST, TURN_TAKEN, WRAPPED, NO_OFFSET, BY_LAYER,
+    BY_PANEL, SUM_NOT_REDUCED, FAULTS
 };
-static const struct { const char *name; int seen_by; } faults[FAULTS] = {
-    [UNKNOWN_REFUSAL] = {"one above all refusals for 11", KNOWN},
-    [PORTS_ON_REFUSAL] = {"ports given on a refusal", ZEROS},
-    [BEAM_ON_REFUSAL] = {"the first layer's beam left on a refusal", NO_BEAM},
-    [BYTE_ON_REFUSAL] = {"a byte of the buffer changed on a refusal", AS_LENT},
-    [WRONG_SCALE] = {"the scale less by P", RECORD},
-    [BEAM_TOO_MANY] = {"the first layer's beam again behind the last", BEAMS_BEHIND},
-    [NOT_REDUCED] = {"a beam's l not reduced", IN_RANGE},
-    [NEXT_BEAM] = {"a beam's l more by one", NOT_BARRED},
-    [NO_ENTRY] = {"an entry with all bits ones", LEGAL},
-    [PAST_ANSWER] = {"the byte behind the answer changed", BEHIND},
-    [NOT_WRITTEN] = {"an entry not written", REPEATED},
-    [BEFORE_OUT] = {"the byte before the buffer changed", OUT_GUARDS},
-    [BEHIND_OUT] = {"the byte behind the buffer changed", OUT_GUARDS},
-    [BEFORE_MASK] = {"the byte before the mask changed", MASK_GUARDS},
-    [BEHIND_MASK] = {"the byte behind the mask changed", MASK_GUARDS},
-    [MASK_BYTE] = {"a byte of the mask changed", MASK_AS_LENT},
-    [OTHER_ORDER] = {"11 before 10", BASELINE_RECORD},
-    [LEFT_OUT] = {"the second layer's beam left out", BASELINE_RECORD},
-    [FIRST_BEAM] = {"the first layer's beam for the second", BASELINE_RECORD},
-    [OTHER_ENTRY] = {"the first entry in place of another", BASELINE_OUT},
-    [MIDDLE_ALONE] = {"of a half-length beam the middle bit alone", BASELINE_RECORD},
-    [NOT_DOUBLED] = {"i11 for 2*i11 of a half-length beam", BASELINE_RECORD},
-    [OTHER_PANEL_ORDER] = {"9 before 12", BASELINE_RECORD},
-    [OTHER_PANEL] = {"the first panel in place of the last", BASELINE_OUT},
+static const struct { const char *name; int seen_by, of; } faults[FAULTS] = {
+    [UNKNOWN_REFUSAL] = {"a refusal that the codebook has not for 11", KNOWN, ALL},
+    [PORTS_ON_REFUSAL] = {"ports given on a refusal", ZEROS, ALL},
+    [BEAM_ON_REFUSAL] = {"the first layer's beam left on a refusal", NO_BEAM, ALL},
+    [BYTE_ON_REFUSAL] = {"a byte of the buffer changed on a refusal", AS_LENT, ALL},
+    [WRONG_SCALE] = {"the scale less by P", RECORD, ALL},
+    [BEAM_TOO_MANY] = {"the first layer's beam again behind the last", BEAMS_BEHIND, ALL},
+    [NOT_REDUCED] = {"a beam's l not reduced", IN_RANGE, ALL},
+    [NEXT_BEAM] = {"a beam's l more by one", NOT_BARRED, ALL},
+    [NO_ENTRY] = {"an entry with all bits ones", LEGAL, ALL},
+    [PAST_ANSWER] = {"the byte behind the answer changed", BEHIND, ALL},
+    [NOT_WRITTEN] = {"an entry not written", REPEATED, ALL},
+    [BEFORE_OUT] = {"the byte before the buffer changed", OUT_GUARDS, ALL},
+    [BEHIND_OUT] = {"the byte behind the buffer changed", OUT_GUARDS, ALL},
+    [BEFORE_MASK] = {"the byte before the mask changed", MASK_GUARDS, ALL},
+    [BEHIND_MASK] = {"the byte behind the mask changed", MASK_GUARDS, ALL},
+    [MASK_BYTE] = {"a byte of the mask changed", MASK_AS_LENT, ALL},
+    [BEFORE_OFFSETS] = {"the byte before the offsets changed", OFFSETS_GUARDS, ALL},
+    [BEHIND_OFFSETS] = {"the byte behind the offsets changed", OFFSETS_GUARDS, ALL},
+    [OFFSETS_BYTE] = {"a byte of the offsets changed", OFFSETS_AS_LENT, ALL},
+    [OTHER_ORDER] = {"11 before 10", BASELINE_RECORD, ALL},
+    [LEFT_OUT] = {"the second layer's beam left out", BASELINE_RECORD, ALL},
+    [FIRST_BEAM] = {"the first layer's beam for the second", BASELINE_RECORD, ALL},
+    [OTHER_ENTRY] = {"the first entry in place of another", BASELINE_OUT, ALL},
+    [MIDDLE_ALONE] = {"of a half-length beam the middle bit alone", BASELINE_RECORD, SINGLE},
+    [NOT_DOUBLED] = {"i11 for 2*i11 of a half-length beam", BASELINE_RECORD, SINGLE},
+    [OTHER_PANEL_ORDER] = {"9 before 12", BASELINE_RECORD, SEVERAL},
+    [OTHER_PANEL] = {"the first panel in place of the last", BASELINE_OUT, SEVERAL},
+    [OFFSETS_FIRST] = {"13 before 10", BASELINE_RECORD, ALL},
+    [OFFSETS_LAST] = {"11 before 13", BASELINE_RECORD, ALL},
+    [LONGER_LIST] = {"a longer list of offsets accepted", BASELINE_RECORD, ALL},
+    [TURN_TAKEN] = {"a whole turn accepted as an offset", BASELINE_RECORD, ALL},
+    [WRAPPED] = {"an offset that wraps at 65536 accepted", BASELINE_RECORD, ALL},
+    [NO_OFFSET] = {"the offset of a port left out", BASELINE_OUT, ALL},
+    [BY_LAYER] = {"the offset by layer instead of by port", BASELINE_OUT, ALL},
+    [BY_PANEL] = {"the first panel's offsets for every panel", BASELINE_OUT, SEVERAL},
+    [SUM_NOT_REDUCED] = {"a sum with an offset not reduced", LEGAL, BOTH_PHASES},
 };
 enum { FAULTY = 20000 };
 
-static loan mask, mask_lent, out, out_lent, out_again, out_again_lent, out_baseline;
+static int is_for(int fault, int function) { return fault == NONE || faults[fault].of >> function & 1; }
+
+static loan mask, mask_lent, offsets, offsets_lent, out, out_lent, out_again, out_again_lent, out_baseline;
 static unsigned long long outcomes[FUNCTIONS][REFUSALS + 1], failures[FUNCTIONS][CHECKS];
 
 static uint32_t ports_of(const request *q) { return 2 * q->report.ng * q->report.n1 * q->report.n2; }
@@ -237,17 +276,19 @@ static uint32_t across(const request *q) { return q->report.n1 > 1 ? 4 * q->repo
 static uint32_t down(const request *q) { return q->report.n2 > 1 ? 4 * q->report.n2 : 1; }
 
 // A call of the library, or of the version by hand.
-#define CALL(name, prefix)                                                                                            \
-    static aspenflick_record name(int function, const request *q, const uint8_t *bits, uint8_t *bytes) {              \
-        const aspenflick_panel_report r = q->report;                                                                  \
-        const aspenflick_report single = {r.n1, r.n2, r.mode, r.v, r.i11, r.i12, r.i13, r.i2[0]};                     \
-        int16_t *numbers = (int16_t *)(void *)bytes;                                                                  \
-        switch (function) {                                                                                           \
-        case PHASES: return prefix##_phases(single, bits, q->mask_len, q->ranks, bytes, q->out_len);                  \
-        case WEIGHTS: return prefix##_weights(single, bits, q->mask_len, q->ranks, numbers, q->out_len);              \
-        case PANEL_PHASES: return prefix##_panel_phases(r, bits, q->mask_len, q->ranks, bytes, q->out_len);           \
-        default: return prefix##_panel_weights(r, bits, q->mask_len, q->ranks, numbers, q->out_len);                  \
-        }                                                                                                             \
+#define CALLED(function, report, number) \
+    function(report, bits, q->mask_len, q->ranks, turns, q->offsets_len, (number *)(void *)bytes, q->out_len)
+#define CALL(name, prefix)                                                                                           \
+    static aspenflick_record name(int function, const request *q, const uint8_t *bits, const uint16_t *turns,        \
+                                  uint8_t *bytes) {                                                                  \
+        const aspenflick_panel_report r = q->report;                                                                 \
+        const aspenflick_report single = {r.n1, r.n2, r.mode, r.v, r.i11, r.i12, r.i13, r.i2[0]};                    \
+        switch (function) {                                                                                          \
+        case PHASES: return CALLED(prefix##_phases, single, uint16_t);                                               \
+        case WEIGHTS: return CALLED(prefix##_weights, single, int16_t);                                              \
+        case PANEL_PHASES: return CALLED(prefix##_panel_phases, r, uint16_t);                                        \
+        default: return CALLED(prefix##_panel_weights, r, int16_t);                                                  \
+        }                                                                                                            \
     }
 CALL(call, aspenflick)
 CALL(call_baseline, baseline)
@@ -262,29 +303,79 @@ static int is_one(const request *q, const uint8_t *bits, aspenflick_beam b) {
 static int half_length(const request *q) { return ports_of(q) >= 16 && (q->report.v == 3 || q->report.v == 4); }
 static aspenflick_beam half_length_beam(const request *q) { return (aspenflick_beam){2 * q->report.i11, q->report.i12}; }
 
-// Spoils what a call has given, as a library with that fault would: twice alike. `choice` picks the byte, the entry or the
-// layer.
-static aspenflick_record spoil(int fault, uint32_t choice, int function, const request *q, uint8_t *bits, uint8_t *bytes,
-                               const uint8_t *bytes_lent, aspenflick_record record) {
-    int weights = functions[function].weights;
-    size_t entry = weights ? 2 * sizeof(int16_t) : sizeof(uint8_t), scale = record.scale;
-    size_t len = weights ? sizeof(int16_t) * q->out_len : q->out_len, mask_len = q->mask_len;
+static int offsets_fit(const request *q, const uint16_t *turns) {
+    int fit = q->offsets_len == ports_of(q);
+    for (size_t i = 0; i < q->offsets_len; i++) fit &= turns[i] < TURN;
+    return fit;
+}
+
+// Answers again, with the offsets as a library with that fault would take them.
+static aspenflick_record answer_again(int fault, uint32_t choice, int function, const request *q, const uint8_t *bits,
+                                      const uint16_t *turns, uint8_t *bytes) {
+    static uint16_t other[MOST];
+    uint32_t ports = ports_of(q);
+    request taken = *q;
+    memcpy(other, turns, q->offsets_len * sizeof *other);
+    if (fault == LONGER_LIST && q->offsets_len > ports) taken.offsets_len = ports;
+    if (fault == NO_OFFSET) other[choice % ports] = 0;
+    for (size_t i = 0; i < q->offsets_len; i++) {
+        if (fault == TURN_TAKEN && other[i] == TURN) other[i] = 0;
+        if (fault == WRAPPED && other[i] >= 65536 - TURN) other[i] = (uint16_t)(other[i] + TURN);
+        if (fault == BY_PANEL) other[i] = turns[i % (ports / q->report.ng)];
+    }
+    return call_baseline(function, &taken, bits, other, bytes);
+}
+
+// Of an accepted report: gives every port of a layer the offset of the port with that layer's number.
+static void answer_by_layer(int function, const request *q, const uint8_t *bits, const uint16_t *turns, uint8_t *bytes) {
+    static uint16_t same[MOST], whole_answer[MOST];
+    uint32_t ports = ports_of(q);
+    size_t layer = (functions[function].weights ? 2 : 1) * ports;
+    for (size_t j = 0; j < q->report.v; j++) {
+        for (size_t i = 0; i < ports; i++) same[i] = turns[j];
+        call_baseline(function, q, bits, same, (uint8_t *)whole_answer);
+        memcpy(bytes + WIDTH * layer * j, whole_answer + layer * j, WIDTH * layer);
+    }
+}
+
+// Of accepted phases: adds the turn again that was taken off with the offset.
+static void undo_reduction(const request *q, const uint16_t *turns, uint8_t *bytes, size_t entries) {
+    uint16_t *phases = (uint16_t *)(void *)bytes;
+    for (size_t i = 0; i < entries; i++) {
+        if (phases[i] < turns[i % ports_of(q)]) phases[i] = (uint16_t)(phases[i] + TURN);
+    }
+}
+
+// Spoils what a call has given, as a library with that fault would: twice alike. `choice` picks the byte, the entry, the
+// layer or the port.
+static aspenflick_record spoil(int fault, uint32_t choice, int function, const request *q, uint8_t *bits, uint8_t *turns,
+                               uint8_t *bytes, const uint8_t *bytes_lent, aspenflick_record record) {
+    size_t entry = WIDTH * (functions[function].weights ? 2 : 1), scale = record.scale;
+    size_t len = WIDTH * q->out_len, turns_len = WIDTH * q->offsets_len, mask_len = q->mask_len;
     const uint8_t *bits_lent = mask_lent.room + (bits - mask.room);
+    const uint8_t *turns_lent = offsets_lent.room + (turns - offsets.room);
+    const uint16_t *numbers = (const uint16_t *)(const void *)turns_lent;
     if (record.refusal) {
         size_t needed = entry * ports_of(q) * q->report.v;
         int bad_i2 = q->report.i2[0] > 3 || q->report.i2[1] > 1 || q->report.i2[2] > 1;
-        if (fault == UNKNOWN_REFUSAL && record.refusal == 11) record.refusal = functions[function].refusals + 1;
+        uint32_t unknown = functions[function].panels ? REFUSALS + 1 : 12;
+        if (fault == UNKNOWN_REFUSAL && record.refusal == 11) record.refusal = unknown;
         if (fault == PORTS_ON_REFUSAL) record.ports = 4;
         if (fault == BEAM_ON_REFUSAL) record.beams[0] = (aspenflick_beam){q->report.i11, q->report.i12};
         if (fault == BYTE_ON_REFUSAL && len) bytes[choice % len] ^= 1;
         if (fault == OTHER_ORDER && record.refusal == 10 && len < needed) record.refusal = 11;
         if (fault == OTHER_PANEL_ORDER && record.refusal == 12 && bad_i2) record.refusal = 9;
+        if (fault == OFFSETS_FIRST && record.refusal == 10 && !offsets_fit(q, numbers)) record.refusal = 13;
+        if (fault == OFFSETS_LAST && record.refusal == 13 && len < needed) record.refusal = 11;
+        if ((fault == LONGER_LIST || fault == TURN_TAKEN || fault == WRAPPED) && record.refusal == 13) {
+            record = answer_again(fault, choice, function, q, bits_lent, numbers, bytes);
+        }
         if (fault == MIDDLE_ALONE && record.refusal == 10 && half_length(q) && is_one(q, bits, half_length_beam(q))) {
             static const uint8_t ones[] = {
                 255, 255, 255, 255, 255, 255, 255, 255, 255, 255, 255, 255, 255, 255, 255, 255,
                 255, 255, 255, 255, 255, 255, 255, 255, 255, 255, 255, 255, 255, 255, 255, 255,
             };
-            record = call_baseline(function, q, ones, bytes);
+            record = call_baseline(function, q, ones, numbers, bytes);
         }
     } else {
         uint8_t *some = bytes + choice % scale * entry;
@@ -304,12 +395,18 @@ static aspenflick_record spoil(int fault, uint32_t choice, int function, const r
             size_t panel = entry * record.ports / q->report.ng;
             memcpy(bytes + panel * (q->report.ng - 1), bytes, panel);
         }
+        if (fault == NO_OFFSET || fault == BY_PANEL) answer_again(fault, choice, function, q, bits_lent, numbers, bytes);
+        if (fault == BY_LAYER) answer_by_layer(function, q, bits_lent, numbers, bytes);
+        if (fault == SUM_NOT_REDUCED) undo_reduction(q, numbers, bytes, scale);
     }
     if (fault == BEFORE_OUT) bytes[-1] ^= 1;
     if (fault == BEHIND_OUT) bytes[len] ^= 1;
     if (fault == BEFORE_MASK) bits[-1] = bits_lent[-1] ^ 1;
     if (fault == BEHIND_MASK) bits[mask_len] = bits_lent[mask_len] ^ 1;
     if (fault == MASK_BYTE && mask_len) bits[choice % mask_len] = bits_lent[choice % mask_len] ^ 1;
+    if (fault == BEFORE_OFFSETS) turns[-1] = turns_lent[-1] ^ 1;
+    if (fault == BEHIND_OFFSETS) turns[turns_len] = turns_lent[turns_len] ^ 1;
+    if (fault == OFFSETS_BYTE && turns_len) turns[choice % turns_len] = turns_lent[choice % turns_len] ^ 1;
     return record;
 }
 
@@ -343,13 +440,13 @@ static int all_ones(const request *q, const uint8_t *bits, const aspenflick_reco
 static int legal(int function, const uint8_t *bytes, size_t len) {
     int good = 1;
     if (!functions[function].weights) {
-        for (size_t i = 0; i < len; i++) good &= bytes[i] < TURN;
+        const uint16_t *phases = (const uint16_t *)(const void *)bytes;
+        for (size_t i = 0; i < len / WIDTH; i++) good &= phases[i] < TURN;
         return good;
     }
-    for (size_t i = 0; i < len; i += 2 * sizeof(int16_t)) {
-        int16_t x, y;
-        memcpy(&x, bytes + i, sizeof x);
-        memcpy(&y, bytes + i + sizeof x, sizeof y);
+    const int16_t *weights = (const int16_t *)(const void *)bytes;
+    for (size_t i = 0; i < len / WIDTH; i += 2) {
+        int16_t x = weights[i], y = weights[i + 1];
         uint32_t power = (uint32_t)(x * x) + (uint32_t)(y * y);
         good &= SQUARED - POWER_LIMIT <= power && power <= SQUARED + POWER_LIMIT;
     }
@@ -365,13 +462,16 @@ static void print_record(const aspenflick_record *record) {
 // are counted, but not printed.
 static void ask(int function, uint64_t number, int fault) {
     request q = any_request(function);
-    int weights = functions[function].weights;
-    size_t width = weights ? sizeof(int16_t) : sizeof(uint8_t);
-    extent m = {below(PLACES), q.mask_len}, o = {width * below((uint32_t)(PLACES / width)), width * q.out_len};
-    fill(&mask_lent, m, function);
+    extent m = {below(PLACES), q.mask_len};
+    extent f = {WIDTH * below(PLACES / WIDTH), WIDTH * q.offsets_len};
+    extent o = {WIDTH * below(PLACES / WIDTH), WIDTH * q.out_len};
+    fill(&mask_lent, m);
     make_mask(inner(&mask_lent, m), m.len);
     copy(&mask, &mask_lent, m);
-    fill(&out_lent, o, function);
+    fill(&offsets_lent, f);
+    make_offsets((uint16_t *)(void *)inner(&offsets_lent, f), q.offsets_len);
+    copy(&offsets, &offsets_lent, f);
+    fill(&out_lent, o);
     copy(&out, &out_lent, o);
     copy(&out_baseline, &out_lent, o);
     // No byte of the other fill is as in the first one.
@@ -379,25 +479,28 @@ static void ask(int function, uint64_t number, int fault) {
     for (size_t i = 0; i < o.len; i++) inner(&out_again_lent, o)[i] ^= 255;
     copy(&out_again, &out_again_lent, o);
 
-    uint8_t *bits = inner(&mask, m), *bytes = inner(&out, o), *bytes_again = inner(&out_again, o);
-    const uint8_t *bits_lent = inner(&mask_lent, m);
+    uint8_t *bits = inner(&mask, m), *turns = inner(&offsets, f);
+    uint8_t *bytes = inner(&out, o), *bytes_again = inner(&out_again, o);
+    const uint8_t *bits_lent = inner(&mask_lent, m), *turns_lent = inner(&offsets_lent, f);
     const uint8_t *bytes_lent = inner(&out_lent, o), *bytes_again_lent = inner(&out_again_lent, o);
-    aspenflick_record record = call(function, &q, bits, bytes), again = call(function, &q, bits, bytes_again);
-    aspenflick_record baseline = call_baseline(function, &q, bits_lent, inner(&out_baseline, o));
+    const uint16_t *numbers = (const uint16_t *)(void *)turns, *numbers_lent = (const uint16_t *)(const void *)turns_lent;
+    aspenflick_record record = call(function, &q, bits, numbers, bytes);
+    aspenflick_record again = call(function, &q, bits, numbers, bytes_again);
+    aspenflick_record baseline = call_baseline(function, &q, bits_lent, numbers_lent, inner(&out_baseline, o));
     if (fault && below(4) == 0) {
         uint32_t choice = (uint32_t)draw();
-        record = spoil(fault, choice, function, &q, bits, bytes, bytes_lent, record);
-        again = spoil(fault, choice, function, &q, bits, bytes_again, bytes_again_lent, again);
+        record = spoil(fault, choice, function, &q, bits, turns, bytes, bytes_lent, record);
+        again = spoil(fault, choice, function, &q, bits, turns, bytes_again, bytes_again_lent, again);
     }
 
     uint32_t ports = ports_of(&q), scale = q.report.v * ports;
     int refused = record.refusal != 0;
     // Of an answer that is longer than the buffer no more can be looked at.
-    size_t answer = refused ? 0 : width * (weights ? 2 : 1) * (size_t)scale;
+    size_t answer = refused ? 0 : WIDTH * (functions[function].weights ? 2 : 1) * (size_t)scale;
     if (answer > o.len) answer = o.len;
     size_t rest = o.len - answer;
     const int holds[CHECKS] = {
-        [KNOWN] = record.refusal <= functions[function].refusals,
+        [KNOWN] = known(function, record.refusal),
         [ZEROS] = !refused || !(record.ports | record.layers | record.scale),
         [NO_BEAM] = !refused || none_from(&record, 0),
         [AS_LENT] = !refused || !memcmp(bytes, bytes_lent, o.len),
@@ -412,6 +515,8 @@ static void ask(int function, uint64_t number, int fault) {
         [OUT_GUARDS] = same_guards(&out, &out_lent, o) && same_guards(&out_again, &out_lent, o),
         [MASK_GUARDS] = same_guards(&mask, &mask_lent, m),
         [MASK_AS_LENT] = !memcmp(bits, bits_lent, m.len),
+        [OFFSETS_GUARDS] = same_guards(&offsets, &offsets_lent, f),
+        [OFFSETS_AS_LENT] = !memcmp(turns, turns_lent, f.len),
         [BASELINE_RECORD] = same_record(&record, &baseline),
         [BASELINE_OUT] = !memcmp(bytes, inner(&out_baseline, o), o.len),
     };
@@ -420,10 +525,12 @@ static void ask(int function, uint64_t number, int fault) {
         if (holds[check] || failures[function][check]++ || fault) continue;
         const aspenflick_panel_report r = q.report;
         printf("%s: request %llu fails `%s`: Ng=%u N1=%u N2=%u mode=%u v=%u i11=%u i12=%u i13=%u i14=%u,%u,%u "
-               "i2=%u,%u,%u ranks=%u, %zu bytes of mask, room for %zu:",
+               "i2=%u,%u,%u ranks=%u, %zu bytes of mask, room for %zu, %zu offsets",
                functions[function].name, (unsigned long long)number, check_names[check], r.ng, r.n1, r.n2, r.mode, r.v,
                r.i11, r.i12, r.i13, r.i14[0], r.i14[1], r.i14[2], r.i2[0], r.i2[1], r.i2[2], q.ranks, q.mask_len,
-               q.out_len);
+               q.out_len, q.offsets_len);
+        for (size_t i = 0; i < q.offsets_len && i < ASPENFLICK_MOST_PORTS; i++) printf(" %u", numbers_lent[i]);
+        printf(":");
         print_record(&record);
         printf(", the version by hand");
         print_record(&baseline);
@@ -431,16 +538,12 @@ static void ask(int function, uint64_t number, int fault) {
     }
 }
 
-static int first_function(int fault) { return fault < OTHER_PANEL_ORDER ? PHASES : PANEL_PHASES; }
-static int past_function(int fault) {
-    return fault == MIDDLE_ALONE || fault == NOT_DOUBLED ? PANEL_PHASES : FUNCTIONS;
-}
-
 // Of several panels, whose calls take longer, half as many.
 static uint64_t requests(int function, uint64_t count) { return function < PANEL_PHASES ? count : count / 2; }
 
 static void run(uint64_t count, int fault) {
-    for (int function = first_function(fault); function < past_function(fault); function++) {
+    for (int function = 0; function < FUNCTIONS; function++) {
+        if (!is_for(fault, function)) continue;
         for (int k = 0; k <= REFUSALS; k++) outcomes[function][k] = 0;
         for (int k = 0; k < CHECKS; k++) failures[function][k] = 0;
         for (uint64_t number = 0; number < requests(function, count); number++) ask(function, number, fault);
@@ -474,7 +577,8 @@ int main(int arguments, char **argument) {
         unsigned long long *times = outcomes[function], *broken = failures[function], asked = requests(function, count);
         const char *name = functions[function].name;
         printf("%s: %llu requests, accepted %llu%s, by refusal", name, asked, times[0], test(times[0] * RAREST > asked));
-        for (uint32_t k = 1; k <= functions[function].refusals; k++) {
+        for (uint32_t k = 1; k <= REFUSALS; k++) {
+            if (!known(function, k)) continue;
             printf("%s %u: %llu%s", k > 1 ? "," : "", k, times[k], test(times[k] * RAREST > asked));
         }
         printf("\n");
@@ -483,12 +587,15 @@ int main(int arguments, char **argument) {
         }
     }
     for (int fault = NONE + 1; fault < FAULTS; fault++) {
-        int check = faults[fault].seen_by, first = first_function(fault);
+        int check = faults[fault].seen_by;
+        const char *comma = "";
         run(FAULTY, fault);
         printf("seeded: %s: `%s` fails", faults[fault].name, check_names[check]);
-        for (int function = first; function < past_function(fault); function++) {
+        for (int function = 0; function < FUNCTIONS; function++) {
+            if (!is_for(fault, function)) continue;
             unsigned long long times = failures[function][check];
-            printf("%s %llu times for %s%s", function > first ? "," : "", times, functions[function].name, test(times > 0));
+            printf("%s %llu times for %s%s", comma, times, functions[function].name, test(times > 0));
+            comma = ",";
         }
         printf("\n");
     }

@@ -1,12 +1,12 @@
 // Aspenflick for C: the precoder of a 5G NR Type I PMI report of TS 38.214, single-panel (5.2.2.2.1) or multi-panel
 // (5.2.2.2.2), or its refusal; and a reader of logs of such reports.
 //
-// A call answers any numbers, masks and lengths. It allocates nothing, takes less than 2,048 bytes of stack (measured,
-// not proved) and keeps no state, so several threads may call at once, each with an `out` of its own. A struct goes by
-// value. A slice is a pointer to entries and then their number: the pointer must not be null and must be aligned for
-// them, also where there are none, and `out` must not overlap `mask`. Nothing else of the caller's is read or written.
-// The answer to a report is determined by the report, both masks, the length of `out`, which function is called, and the
-// version of the library: whoever files answers keeps these.
+// A call answers any numbers, masks, offsets and lengths. It allocates nothing, takes less than 2,048 bytes of stack
+// (measured, not proved) and keeps no state, so several threads may call at once, each with an `out` of its own. A struct
+// goes by value. A slice is a pointer to entries and then their number: the pointer must not be null and must be aligned
+// for them, also where there are none, and `out` must not overlap `mask` or `offsets`. Nothing else of the caller's is read
+// or written. The answer to a report is determined by the report, both masks, the offsets, the length of `out`, which
+// function is called, and the version of the library: whoever files answers keeps these.
 //
 // One panel: the settings (n1,n2) are (1,1), called two ports, (2,1), (2,2), (4,1), (3,2), (6,1), (4,2), (8,1), (4,3),
 // (6,2), (12,1), (4,4), (8,2) and (16,1). P is the number of ports, 2·n1·n2. M stands for the beams of the second
@@ -53,6 +53,9 @@
 // Layers that have one beam repeat it; a half-length beam is named (2·i11, i12), the middle one of its three; in a layer of
 // several panels, which all have one beam, that is named once. Places from v on are (0,0), which is a beam too: they say
 // nothing. Two ports have no beams, and all places are (0,0).
+//
+// Phases are whole numbers of 1/384 turns, 0 to 383. `offsets` has one for each of the P ports, in the order of the ports:
+// it is added to the port's phase in every layer, modulo a turn. Zeros leave the precoder as the standard prints it.
 ghost use mathlib.Core.Path.{_≡_};
 ghost use Rattle.ground.specs.Cases.{_⇒_∣_};
 ghost use Rattle.settings.specs.Settings.{isSetting, maskBytes};
@@ -64,7 +67,7 @@ ghost use Rattle.aspenflick.specs.Version.{version};
 
 // The version of the library. A struct, a parameter or a constant that changes makes the first number another, and every
 // function is linked by a name that ends with it: a program compiled with a header of another major number does not link.
-pub const VERSION_MAJOR: u32 = 2;
+pub const VERSION_MAJOR: u32 = 3;
 
 pub const VERSION_MINOR: u32 = 0;
 
@@ -119,7 +122,10 @@ pub const I2_RANGE: u32 = 9;
 // a bit of `mask` that the report reads is zero
 pub const BEAM_BARRED: u32 = 10;
 
-// `out` is too short: v·P bytes are needed, or 2·v·P numbers for weights
+// `offsets` are not exactly P, or one of them is above 383
+pub const OFFSETS_UNFIT: u32 = 13;
+
+// `out` is too short: v·P numbers are needed, or 2·v·P for weights
 pub const NO_ROOM: u32 = 11;
 
 // What a step of a log is.
@@ -144,7 +150,7 @@ pub const FAULT_LARGE: u32 = 3;
 
 // The version of the library that is linked: 10000·major + 100·minor + patch, as in ASPENFLICK_VERSION.
 #[no_mangle]
-pub extern "C" fn aspenflick_version_2() -> u32
+pub extern "C" fn aspenflick_version_3() -> u32
     ensures { λ n. ⌜ n ≡ version ⌝ }
 {
     10000 * VERSION_MAJOR + 100 * VERSION_MINOR + VERSION_PATCH
@@ -152,70 +158,79 @@ pub extern "C" fn aspenflick_version_2() -> u32
 
 // How many bytes the beam mask of a setting has; 0 for a pair that is no setting. Panels have the mask of one of them.
 #[no_mangle]
-pub extern "C" fn aspenflick_mask_bytes_2(n1: u32, n2: u32) -> u32
+pub extern "C" fn aspenflick_mask_bytes_3(n1: u32, n2: u32) -> u32
     ensures { λ n. ⌜ n ≡ (isSetting n1 n2 ⇒ maskBytes n1 n2 ∣ 0) ⌝ }
 {
     settings::mask_bytes(n1, n2)
 }
 
-// Writes the phases of a report's precoder, each 0 to 191 in 1/192 turns: layer after layer, each of P entries, the first
-// polarisation first. Entries past the v·P of the answer stay as lent. (2,1) with mode 1, v = 1, i11 = 1, i2 = 1 and the
-// rest 0 gives 0 24 48 72 and names the beam (1,0).
+// Writes the phases of a report's precoder: layer after layer, each of P entries, the first polarisation first, to each
+// the offset of its port added. `out_len` counts 16-bit numbers, and so does `offsets_len`. Entries past the v·P of the
+// answer stay as lent. (2,1) with mode 1, v = 1, i11 = 1, i2 = 1 and the rest 0 gives 0 48 96 144 with the offsets
+// 0 0 0 0, and 1 50 99 148 with 1 2 3 4; it names the beam (1,0).
 #[no_mangle]
-pub extern "C" fn aspenflick_phases_2(
+pub extern "C" fn aspenflick_phases_3(
     r: report::Report,
     mask: &[u8],
     ranks: u8,
+    offsets: &[turn::Part],
     out: &mut [turn::Part],
 ) -> plan::Record
-    ensures { λ a. ⌜ PhasesLeft single r (now (mask .entry)) ranks (now (out .entry)) a (now (out .exit)) ⌝ }
+    ensures { λ a. ⌜ PhasesLeft single r (now (mask .entry)) ranks (now (offsets .entry)) (now (out .entry)) a
+        (now (out .exit)) ⌝ }
 {
-    precoder::phases(r, mask, ranks, out)
+    precoder::phases(r, mask, ranks, offsets, out)
 }
 
 // Writes the weights of a report's precoder: for each entry that `aspenflick_phases` writes, x and then y, the whole
 // numbers nearest to 16384 times the cosine and the sine of its phase; a true precoder is divided by 16384 too. `out_len`
-// counts 16-bit numbers. Numbers past the 2·v·P of the answer stay as lent. The report above gives 16384 0 11585 11585
-// 0 16384 -11585 11585.
+// counts 16-bit numbers. Numbers past the 2·v·P of the answer stay as lent. The report above with
+// the offsets 0 0 0 0 gives 16384 0 11585 11585 0 16384 -11585 11585.
 #[no_mangle]
-pub extern "C" fn aspenflick_weights_2(
+pub extern "C" fn aspenflick_weights_3(
     r: report::Report,
     mask: &[u8],
     ranks: u8,
+    offsets: &[turn::Part],
     out: &mut [i16],
 ) -> plan::Record
-    ensures { λ a. ⌜ WeightsLeft single r (now (mask .entry)) ranks (now (out .entry)) a (now (out .exit)) ⌝ }
+    ensures { λ a. ⌜ WeightsLeft single r (now (mask .entry)) ranks (now (offsets .entry)) (now (out .entry)) a
+        (now (out .exit)) ⌝ }
 {
-    precoder::weights(r, mask, ranks, out)
+    precoder::weights(r, mask, ranks, offsets, out)
 }
 
 // Writes the phases of a multi-panel report's precoder as `aspenflick_phases` does: layer after layer, each of P entries,
 // panel by panel, the first polarisation of a panel first. (2,2,1) with mode 1, v = 1, i11 = 1, i14 = 1 0 0, i2 = 2 0 0
-// and the rest 0 gives 0 24 96 120 48 72 144 168.
+// and the rest 0 gives 0 48 192 240 96 144 288 336 with the offsets 0 0 0 0 0 0 0 0.
 #[no_mangle]
-pub extern "C" fn aspenflick_panel_phases_2(
+pub extern "C" fn aspenflick_panel_phases_3(
     r: multi::PanelReport,
     mask: &[u8],
     ranks: u8,
+    offsets: &[turn::Part],
     out: &mut [turn::Part],
 ) -> plan::Record
-    ensures { λ a. ⌜ PhasesLeft panels r (now (mask .entry)) ranks (now (out .entry)) a (now (out .exit)) ⌝ }
+    ensures { λ a. ⌜ PhasesLeft panels r (now (mask .entry)) ranks (now (offsets .entry)) (now (out .entry)) a
+        (now (out .exit)) ⌝ }
 {
-    panels::phases(r, mask, ranks, out)
+    panels::phases(r, mask, ranks, offsets, out)
 }
 
 // Writes the weights of a multi-panel report's precoder: for each entry that `aspenflick_panel_phases` writes, x and then y,
 // as `aspenflick_weights` does.
 #[no_mangle]
-pub extern "C" fn aspenflick_panel_weights_2(
+pub extern "C" fn aspenflick_panel_weights_3(
     r: multi::PanelReport,
     mask: &[u8],
     ranks: u8,
+    offsets: &[turn::Part],
     out: &mut [i16],
 ) -> plan::Record
-    ensures { λ a. ⌜ WeightsLeft panels r (now (mask .entry)) ranks (now (out .entry)) a (now (out .exit)) ⌝ }
+    ensures { λ a. ⌜ WeightsLeft panels r (now (mask .entry)) ranks (now (offsets .entry)) (now (out .entry)) a
+        (now (out .exit)) ⌝ }
 {
-    panels::weights(r, mask, ranks, out)
+    panels::weights(r, mask, ranks, offsets, out)
 }
 
 // Reads one step of a log of reports: what stands at the place `from`, which is the front, 0, or the `next` of the step
@@ -225,7 +240,7 @@ pub extern "C" fn aspenflick_panel_weights_2(
 // end of the log gives the end. (2,1) with mode 1, v = 1, i11 = 1, i2 = 1 and the rest 0 is 02 01 01 01 01 00 00 01; the
 // number 200 is C8 01.
 #[no_mangle]
-pub extern "C" fn aspenflick_log_next_2(log: &[u8], from: usize) -> log::LogStep
+pub extern "C" fn aspenflick_log_next_3(log: &[u8], from: usize) -> log::LogStep
     ensures { λ s. ⌜ s ≡ stepAt (now (log .entry)) from ⌝ }
 {
     log::step_at(log, from)

@@ -1,7 +1,8 @@
 -- A property of every element of a list.
 use mathlib.Core.List.{List, _++_, map, map-id}
-use Prim.Native.Nat.{ℕ, zero, suc}
-use lib.ListN.{take, drop}
+use Prim.Native.Nat.{ℕ, zero, suc, _<_}
+use native.Mathlib.Omega.{arith}
+use lib.ListN.{length, take, drop, getD}
 use Rattle.ground.specs.Lists.{All, all-nil, all-cons}
 
 pub all-append : {P : ℕ → Type 0} {xs ys : List ℕ} → All P xs → All P ys → All P (xs ++ ys)
@@ -24,3 +25,9 @@ pub all-drop : {P : ℕ → Type 0} (n : ℕ) {xs : List ℕ} → All P xs → A
 all-drop zero a = a
 all-drop (suc n) all-nil = all-nil
 all-drop (suc n) (all-cons h a) = all-drop n a
+
+-- and so of each, by its place
+pub all-at : {P : ℕ → Type 0} {xs : List ℕ} → All P xs → (d i : ℕ) → i < length xs → P (getD xs i d)
+all-at all-nil d i h = absurd (omega (arith, h))
+all-at (all-cons p a) d zero h = p
+all-at (all-cons p a) d (suc i) h = all-at a d i (omega arith)

@@ -18,3 +18,21 @@ pub fn copy(from: &[u8], n: usize, out: &mut [u8]) -> bool
     }
     true
 }
+
+// The same of numbers of 16 bits.
+pub fn copy_numbers(from: &[u16], n: usize, out: &mut [u16]) -> bool
+    ensures { λ t. ⌜ Copied (now (from .entry)) n (now (out .entry)) t (now (out .exit)) ⌝ }
+{
+    if from.len() < n {
+        return false;
+    }
+    if out.len() < n {
+        return false;
+    }
+    let mut i = 0;
+    while i < n {
+        out[i] = from[i];
+        i += 1;
+    }
+    true
+}

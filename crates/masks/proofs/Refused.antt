@@ -44,9 +44,9 @@ first-late test (j ∷ ks) t k h =
 
 -- ---- a codebook
 
-module _ {R : Type 0} (b : Codebook R) (r : R) (mask : List ℕ) (ranks room : ℕ) where
+module _ {R : Type 0} (b : Codebook R) (r : R) (mask : List ℕ) (ranks : ℕ) (offsets : List ℕ) (room : ℕ) where
   abbrev tested : ℕ → Bool
-  tested = test b (asked r mask ranks room)
+  tested = test b (asked r mask ranks offsets room)
 
   -- a late number has the codebook's own test
   late-own : (k : ℕ) → T (late k) → tested k ≡ b .rule r k
@@ -54,7 +54,7 @@ module _ {R : Type 0} (b : Codebook R) (r : R) (mask : List ℕ) (ranks room : �
   late-own k t =
       let other : (n : ℕ) → (T (own n) → ⊥) → eqb k n ≡ false =
       λ n shared. ne-eqb k n (λ e. shared (subst (λ (j : ℕ). T (own j)) e (and-right (ltb 5 k) (own k) t))) in
-      rw (other 10 (λ z. z), other 11 (λ z. z), other 3 (λ z. z), other 5 (λ z. z))
+      rw (other 10 (λ z. z), other 13 (λ z. z), other 11 (λ z. z), other 3 (λ z. z), other 5 (λ z. z))
 
   first-own : (ks : List ℕ) → T (each late ks) → first tested ks ≡ first (b .rule r) ks
   unfolding first each
@@ -68,7 +68,7 @@ module _ {R : Type 0} (b : Codebook R) (r : R) (mask : List ℕ) (ranks room : �
     others = first (b .rule r) rest
 
     abbrev admits : ℕ → Type 0
-    admits k = admitted x mask ranks room ≡ k
+    admits k = admitted x mask ranks offsets room ≡ k
 
     -- the first of the rest is none of 1 to 5
     beyond : x .refusal ≡ others → (k : ℕ) → T (leb 1 k && leb k 5) → x .refusal ≢ k
@@ -76,19 +76,19 @@ module _ {R : Type 0} (b : Codebook R) (r : R) (mask : List ℕ) (ranks room : �
 
     -- none of 1 to 5 applies
     past-five : (zero : Bool) → eqb (x .refusal) 0 ≡ zero → x .refusal ≡ others → Passed x mask
-        → rankBarred ranks (x .v) ≡ false → admits (first tested (rest ++ (10 ∷ 11 ∷ [])))
+        → rankBarred ranks (x .v) ≡ false → admits (first tested (rest ++ (10 ∷ 13 ∷ 11 ∷ [])))
     unfolding first test
     past-five true z e p ranked =
         let none = eqb-true (x .refusal) 0 z in
         let own = first-own rest (a .rest-late) ∙ sym e ∙ none in
-        passed x mask ranks room p
-        ∙ rw (ranked, z, a .bits-are none, a .entries-are none)
-        (sym (none-first tested rest (10 ∷ 11 ∷ []) (first-none tested rest (late-numbered rest (a .rest-late)) own)))
+        passed x mask ranks offsets room p
+        ∙ rw (ranked, z, a .bits-are none, a .ports-are none, a .entries-are none)
+        (sym (none-first tested rest (10 ∷ 13 ∷ 11 ∷ []) (first-none tested rest (late-numbered rest (a .rest-late)) own)))
     past-five false z e p ranked =
         let same = e ∙ sym (first-own rest (a .rest-late)) in
-        passed x mask ranks room p
+        passed x mask ranks offsets room p
         ∙ rw (ranked, z)
-        (same ∙ sym (first-stop tested rest (10 ∷ 11 ∷ []) (λ q. eqb-false (x .refusal) 0 z (same ∙ q))))
+        (same ∙ sym (first-stop tested rest (10 ∷ 13 ∷ 11 ∷ []) (λ q. eqb-false (x .refusal) 0 z (same ∙ q))))
 
     -- neither 1 nor 2 applies
     own-first : (four : Bool) → x .refusal ≡ (four ⇒ 4 ∣ others) → (x .refusal ≢ 1) × (x .refusal ≢ 2)
@@ -104,24 +104,24 @@ module _ {R : Type 0} (b : Codebook R) (r : R) (mask : List ℕ) (ranks room : �
 
     past-two : (fits four closed : Bool) → eqb (length mask) (b .maskBytes r) ≡ fits → x .refusal ≡ (four ⇒ 4 ∣ others)
         → rankBarred ranks (x .v) ≡ closed
-        → admits (not fits ⇒ 3 ∣ four ⇒ 4 ∣ closed ⇒ 5 ∣ first tested (rest ++ (10 ∷ 11 ∷ [])))
+        → admits (not fits ⇒ 3 ∣ four ⇒ 4 ∣ closed ⇒ 5 ∣ first tested (rest ++ (10 ∷ 13 ∷ 11 ∷ [])))
     past-two false four closed h e k =
         let (n1, n2) = own-first four e in
-        gives-three x mask ranks room n1 n2 (λ q. eqb-false (length mask) _ h (q ∙ a .bytes-are n1 n2))
+        gives-three x mask ranks offsets room n1 n2 (λ q. eqb-false (length mask) _ h (q ∙ a .bytes-are n1 n2))
     past-two true true closed h e k =
         let (n1, n2) = own-first true e in
-        gives-four x mask ranks room (eqb-true (length mask) _ h ∙ sym (a .bytes-are n1 n2)) e
-    past-two true false true h e k = passed x mask ranks room (none-of-four h e) ∙ rw k
+        gives-four x mask ranks offsets room (eqb-true (length mask) _ h ∙ sym (a .bytes-are n1 n2)) e
+    past-two true false true h e k = passed x mask ranks offsets room (none-of-four h e) ∙ rw k
     past-two true false false h e k = past-five _ refl e (none-of-four h e) k
 
     -- the shared refusals among the codebook's own are all its refusals, in its order
-    pub admitted-refusal : admitted x mask ranks room ≡ refusal b (asked r mask ranks room)
+    pub admitted-refusal : admitted x mask ranks offsets room ≡ refusal b (asked r mask ranks offsets room)
     unfolding refusal first test early
     admitted-refusal =
         go (b .rule r 1) (b .rule r 2) (a .refusal-is) ∙ sym (ap (first tested) (a .order-is))
       where
         go : (one two : Bool) → x .refusal ≡ (one ⇒ 1 ∣ two ⇒ 2 ∣ b .rule r 4 ⇒ 4 ∣ others)
-            → admits (one ⇒ 1 ∣ two ⇒ 2 ∣ first tested (3 ∷ 4 ∷ 5 ∷ (rest ++ (10 ∷ 11 ∷ []))))
-        go true two e = gives-one x mask ranks room e
-        go false true e = gives-two x mask ranks room e
+            → admits (one ⇒ 1 ∣ two ⇒ 2 ∣ first tested (3 ∷ 4 ∷ 5 ∷ (rest ++ (10 ∷ 13 ∷ 11 ∷ []))))
+        go true two e = gives-one x mask ranks offsets room e
+        go false true e = gives-two x mask ranks offsets room e
         go false false e = past-two _ (b .rule r 4) _ refl e (ap (rankBarred ranks) (a .layers-are))

@@ -1,4 +1,4 @@
--- The shared refusals among a codebook's own: 3 stands after 1 and 2, 5 after 4, and 10 and 11 stand last.
+-- The shared refusals among a codebook's own: 3 stands after 1 and 2, 5 after 4, and 10, 13 and 11 stand last.
 use mathlib.Core.Bool.{not, _||_}
 use mathlib.Core.List.{List, [], _∷_}
 use Prim.Native.Nat.{ℕ, _+_, _*_}
@@ -6,6 +6,7 @@ use lib.Dec.{eqb, ltb}
 use lib.ListN.{length, getD, take, drop}
 use Rattle.ground.specs.Cases.{_⇒_∣_}
 use Rattle.plan.specs.Masks.{isZero, barred, rankBarred}
+use Rattle.plan.specs.Offsets.{unfit}
 use Rattle.masks.specs.declared.Needs.{Needs}
 
 -- the bits of one to four beams, in a mask of so many bits for each l
@@ -31,10 +32,11 @@ upToFirst x mask ranks =
     ∣ 0
 
 -- the number of the refusal, or 0
-unfoldable pub admitted : Needs → List ℕ → ℕ → ℕ → ℕ
-admitted x mask ranks room =
+unfoldable pub admitted : Needs → List ℕ → ℕ → List ℕ → ℕ → ℕ
+admitted x mask ranks offsets room =
     not (eqb (beforeBits x (length mask) ranks) 0) ⇒ beforeBits x (length mask) ranks
     ∣ barred mask (bitsOf (x .count) (x .width) (x .l) (x .m)) ⇒ 10
+    ∣ unfit (x .ports) offsets ⇒ 13
     ∣ ltb room (x .entries) ⇒ 11
     ∣ 0
 
@@ -44,6 +46,7 @@ counting n x = record {
   refusal = x .refusal;
   bytes = x .bytes;
   v = x .v;
+  ports = x .ports;
   entries = x .entries;
   count = n;
   width = x .width;

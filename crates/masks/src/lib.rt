@@ -1,19 +1,22 @@
-// The refusals that every codebook shares: the masks, and the room in the lent buffer.
+// The refusals that every codebook shares: the masks, the offsets, and the room in the lent buffer.
+use turn::Part;
 ghost use mathlib.Core.Path.{_≡_};
 ghost use Prim.Native.Nat.{_+_, _*_, _≤_};
 ghost use lib.Dec.{ltb};
 ghost use lib.ListN.{drop};
 ghost use Rattle.ground.specs.Cases.{_⇒_∣_};
 ghost use Rattle.plan.specs.Masks.{isZero, barred, rankBarred};
+ghost use Rattle.plan.specs.Offsets.{unfit};
 ghost use Rattle.masks.specs.Admitted.{bitsOf, beforeBits, upToFirst, admitted, upToTwo, ofThree};
 
 // What a report asks for: the first of its codebook's own refusals that applies, or 0; the bytes of the beam mask; its
-// layers; the entries v·P of its precoder; and how many beams the mask is asked for, one to four, how many bits it has for
-// each l, and l and m of each beam.
+// layers; its ports P and the entries v·P of its precoder; and how many beams the mask is asked for, one to four, how many
+// bits it has for each l, and l and m of each beam.
 pub struct Needs {
     pub refusal: u32,
     pub bytes: u32,
     pub v: u32,
+    pub ports: u32,
     pub entries: u32,
     pub count: u32,
     pub width: u32,
@@ -67,11 +70,37 @@ fn rank_barred(ranks: u8, v: u32) -> bool
     (ranks as u32 >> (v - 1)) % 2 == 0
 }
 
-// 11 where there is no room for the entries, and else 0.
-fn short_of(entries: u32, room: usize) -> u32
-    ensures { λ k. ⌜ k ≡ (ltb room entries ⇒ 11 ∣ 0) ⌝ }
+// Whether offsets are refused: they are not one for each port, or one of them is a turn or more.
+fn is_unfit(ports: u32, offsets: &[Part]) -> bool
+    ensures { λ t. ⌜ t ≡ unfit ports (now (offsets .entry)) ⌝ }
 {
-    if room < entries as usize { 11 } else { 0 }
+    let n = offsets.len();
+    if n != ports as usize {
+        return true;
+    }
+    let mut largest = 0;
+    let mut i = 0;
+    while i < n {
+        let o = offsets[i];
+        if largest < o {
+            largest = o;
+        }
+        i += 1;
+    }
+    turn::TURN <= largest
+}
+
+// 13 where the offsets are refused, 11 where there is no room for the entries, and else 0.
+fn last_of(ports: u32, offsets: &[Part], entries: u32, room: usize) -> u32
+    ensures { λ k. ⌜ k ≡ (unfit ports (now (offsets .entry)) ⇒ 13 ∣ ltb room entries ⇒ 11 ∣ 0) ⌝ }
+{
+    if is_unfit(ports, offsets) {
+        return 13;
+    }
+    if room < entries as usize {
+        return 11;
+    }
+    0
 }
 
 // The first of 1 to 5 and of the codebook's own refusals that applies, or 0, by the bytes of the beam mask and the rank mask.
@@ -114,48 +143,49 @@ fn up_to_first(x: Needs, mask: &[u8], ranks: u8) -> u32
 }
 
 // The first refusal that applies to a report, or 0: 3 where the beam mask has not the bytes needed, 5 where the rank is
-// barred, 10 where a bit that is read is zero and 11 where there is no room for its entries, among the codebook's own.
-pub fn admit(x: Needs, mask: &[u8], ranks: u8, room: usize) -> u32
-    ensures { λ k. ⌜ k ≡ admitted x (now (mask .entry)) ranks room ⌝ }
+// barred, 10 where a bit that is read is zero, 13 where the offsets are not one for each port, each below a turn, and 11
+// where there is no room for its entries, among the codebook's own.
+pub fn admit(x: Needs, mask: &[u8], ranks: u8, offsets: &[Part], room: usize) -> u32
+    ensures { λ k. ⌜ k ≡ admitted x (now (mask .entry)) ranks (now (offsets .entry)) room ⌝ }
 {
     let k = up_to_first(x, mask, ranks);
     if k != 0 {
         return k;
     }
     if x.count < 2 {
-        return short_of(x.entries, room);
+        return last_of(x.ports, offsets, x.entries, room);
     }
     let l = x.l;
     let m = x.m;
     if later_zero(mask, x.count, x.width, l, m) {
         return 10;
     }
-    short_of(x.entries, room)
+    last_of(x.ports, offsets, x.entries, room)
 }
 
 // The same where at most two beams are asked for, however many are counted: a codebook that has no more is not slowed by the
 // others.
-pub fn admit_two(x: Needs, mask: &[u8], ranks: u8, room: usize) -> u32
-    ensures { λ k. ⌜ k ≡ admitted (upToTwo x) (now (mask .entry)) ranks room ⌝ }
+pub fn admit_two(x: Needs, mask: &[u8], ranks: u8, offsets: &[Part], room: usize) -> u32
+    ensures { λ k. ⌜ k ≡ admitted (upToTwo x) (now (mask .entry)) ranks (now (offsets .entry)) room ⌝ }
 {
     let k = up_to_first(x, mask, ranks);
     if k != 0 {
         return k;
     }
     if x.count < 2 {
-        return short_of(x.entries, room);
+        return last_of(x.ports, offsets, x.entries, room);
     }
     let l = x.l;
     let m = x.m;
     if is_zero(mask, x.width, l[1], m[1]) {
         return 10;
     }
-    short_of(x.entries, room)
+    last_of(x.ports, offsets, x.entries, room)
 }
 
 // The same where three beams are asked for, however many are counted.
-pub fn admit_three(x: Needs, mask: &[u8], ranks: u8, room: usize) -> u32
-    ensures { λ k. ⌜ k ≡ admitted (ofThree x) (now (mask .entry)) ranks room ⌝ }
+pub fn admit_three(x: Needs, mask: &[u8], ranks: u8, offsets: &[Part], room: usize) -> u32
+    ensures { λ k. ⌜ k ≡ admitted (ofThree x) (now (mask .entry)) ranks (now (offsets .entry)) room ⌝ }
 {
     let k = up_to_first(x, mask, ranks);
     if k != 0 {
@@ -169,5 +199,5 @@ pub fn admit_three(x: Needs, mask: &[u8], ranks: u8, room: usize) -> u32
     if is_zero(mask, x.width, l[2], m[2]) {
         return 10;
     }
-    short_of(x.entries, room)
+    last_of(x.ports, offsets, x.entries, room)
 }

@@ -9,7 +9,7 @@ use Rattle.ground.specs.Lists.{some, each}
 use Rattle.ground.proofs.Booleans.{either, is-true, is-false, same-truth}
 use Rattle.ground.proofs.Tests.{and-left, and-right, two-eq}
 use Rattle.ground.proofs.Lists.{at-some}
-use Rattle.turn.specs.Phase.{turn, thirtySecond}
+use Rattle.turn.specs.Phase.{turn}
 use Rattle.settings.specs.Settings.{settings, isSetting, ports, across, down, sizesOf}
 use Rattle.settings.specs.Ranges.{kTwo}
 use Rattle.settings.proofs.Known.{at-setting}
@@ -39,7 +39,7 @@ pub record Known (ng n1 n2 : ℕ) : Type 0 where
   pub rows : across n1 * (turn / across n1) ≡ turn
   pub columns : down n2 * (turn / down n2) ≡ turn
   pub thirds : (turn / n1 % 3 ≡ 0) × (turn / n2 % 3 ≡ 0)
-  pub coarse : (turn / across n1 % thirtySecond ≡ 0) × (turn / down n2 % thirtySecond ≡ 0)
+  pub even-steps : (turn / across n1 % 2 ≡ 0) × (turn / down n2 % 2 ≡ 0)
   pub two-rows : length (kTwo n1 n2) ≡ cond (eqb (ports n1 n2) 4) 2 4
   pub more-rows : length (kThreeFour n1 n2) ≡ cond (eqb (ports n1 n2) 4) 1 (cond (eqb (ports n1 n2) 8) 3 4)
 
@@ -57,9 +57,9 @@ known ng n1 n2 e =
       columns = eqb→eq (down n2 * (turn / down n2)) turn (at (λ g a b. eqb (down b * (turn / down b)) turn) tt);
       thirds =
           two-eq (turn / n1 % 3) 0 (turn / n2 % 3) 0 (at (λ g a b. eqb (turn / a % 3) 0 && eqb (turn / b % 3) 0) tt);
-      coarse =
-          two-eq (turn / across n1 % thirtySecond) 0 (turn / down n2 % thirtySecond) 0
-          (at (λ g a b. eqb (turn / across a % thirtySecond) 0 && eqb (turn / down b % thirtySecond) 0) tt);
+      even-steps =
+          two-eq (turn / across n1 % 2) 0 (turn / down n2 % 2) 0
+          (at (λ g a b. eqb (turn / across a % 2) 0 && eqb (turn / down b % 2) 0) tt);
       two-rows =
           eqb→eq (length (kTwo n1 n2)) (cond (eqb (ports n1 n2) 4) 2 4)
           (at (λ g a b. eqb (length (kTwo a b)) (cond (eqb (ports a b) 4) 2 4)) tt);

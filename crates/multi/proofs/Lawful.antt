@@ -78,7 +78,7 @@ pub panels-lawful : Lawful panels InRange
 unfolding among numbered part
 panels-lawful = record {
   order-numbered = tt;
-  last-two = (tt, tt);
+  last-three = (tt, tt, tt);
   in-range = λ r. (in-range r, in-range-none r);
   sound = plan-sound;
   within = bits-within;

@@ -17,7 +17,7 @@ use Rattle.plan.specs.Sound.{StepsFrom, Told, by-co-phases, by-beams, Sound}
 use Rattle.plan.proofs.Told.{twoBeams, two-beams}
 use Rattle.multi.specs.declared.PanelReport.{PanelReport}
 use Rattle.multi.specs.Panels.{panelSettings, kThreeFour, panelRows, coefficients, Column, beamOf}
-use Rattle.multi.specs.Panels.{minus, byRank, kOf, offset, reached, layerOf, plan, InRange}
+use Rattle.multi.specs.Panels.{minus, byRank, kOf, move, reached, layerOf, plan, InRange}
 use Rattle.multi.proofs.Known.{at-panels}
 use Rattle.multi.proofs.InRange.{set, v-some, v-few}
 use Rattle.multi.proofs.Columns.{co-flipped, marks-even, length-co, co-eighths, column, panel-each, length-layers}
@@ -31,8 +31,8 @@ opposite x y = cond (minus x) (not (minus y)) (minus y)
 
 abbrev apart : ℕ → ℕ → Beam → Column → Column → Bool
 apart n1 n2 k x y =
-    let a = offset k (beamOf x) in
-    let b = offset k (beamOf y) in
+    let a = move k (beamOf x) in
+    let b = move k (beamOf y) in
     opposite x y || twoBeams n1 n2 (a .l) (a .m) (b .l) (b .m)
 
 abbrev pairApart : ℕ → ℕ → ℕ → ℕ → ℕ → ℕ → Bool
@@ -61,19 +61,19 @@ module _ (r : PanelReport) (h : InRange r) where
       let both = every-at (r .v) (pair j) (every-at (r .v) (λ j. every (r .v) (pair j)) row j hj) k hk in
       or-else (eqb j k) _ (λ t. ne (eqb→eq j k t)) both
 
-  stands-so : (x : Column) → let k = offset (kOf r) (beamOf x) in
+  stands-so : (x : Column) → let k = move (kOf r) (beamOf x) in
       StepsFrom (plan r .block) (r .i11) (r .i12) (k .l) (k .m) (layerOf r x)
   unfolding layerOf reached
   stands-so x =
-      let k = offset (kOf r) (beamOf x) in
+      let k = move (kOf r) (beamOf x) in
       record { across = rw (mul-comm (o1 (r .n1)) (k .l)); down = rw (mul-comm (o2 (r .n2)) (k .m)) }
 
   two-told : (x y : Column) → T (apart (r .n1) (r .n2) (kOf r) x y) → Told (plan r .block) (layerOf r x) (layerOf r y)
   unfolding layerOf
   two-told x y t =
       let cs = coefficients r in
-      let a = offset (kOf r) (beamOf x) in
-      let b = offset (kOf r) (beamOf y) in
+      let a = move (kOf r) (beamOf x) in
+      let b = move (kOf r) (beamOf y) in
       elim (or-cases (opposite x y) (twoBeams (r .n1) (r .n2) (a .l) (a .m) (b .l) (b .m)) t) [
         | inl u ↦
             by-co-phases _ _ _ (co-flipped cs (minus x)) (co-flipped cs (minus y)) (marks-even cs (minus x) (minus y) u)
@@ -111,7 +111,7 @@ module _ (r : PanelReport) (h : InRange r) where
             rw (layer-is r h j hj)
             (length-co (coefficients r) (minus (column (r .v) j)) ∙ ap (λ (n : ℕ). 2 * n) (panel-each r h));
         eighths = λ j hj. rw (layer-is r h j hj) (co-eighths r (minus (column (r .v) j)));
-        coarse = λ d. k .coarse;
+        even-steps = k .even-steps;
         told = λ i j hi hj ne.
             rw (layer-is r h i hi, layer-is r h j hj)
             (two-told (column (r .v) i) (column (r .v) j) (layers-apart i j hi hj ne));

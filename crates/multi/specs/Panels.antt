@@ -105,13 +105,13 @@ byRank =
 abbrev pub kOf : PanelReport → Beam
 kOf r = getD (panelRows (r .n1) (r .n2) (r .v)) (r .i13) (beam 0 0)
 
-abbrev pub offset : Beam → Name → Beam
-offset k B = beam 0 0
-offset k B′ = k
+abbrev pub move : Beam → Name → Beam
+move k B = beam 0 0
+move k B′ = k
 
 unfoldable pub reached : PanelReport → Name → Beam
 reached r x =
-    let k = offset (kOf r) x in
+    let k = move (kOf r) x in
     beam ((r .i11 + o1 (r .n1) * k .l) % across (r .n1)) ((r .i12 + o2 (r .n2) * k .m) % down (r .n2))
 
 unfoldable pub layerOf : PanelReport → Column → Layer
@@ -178,7 +178,7 @@ bitsRead r = eqb (r .v) 1 ⇒ beamBit r B ∷ [] ∣ beamBit r B ∷ beamBit r B
 
 -- the order in which the refusals are tried: 12, of i14, stands between 8 and 9
 abbrev pub order : List ℕ
-order = 1 ∷ 2 ∷ 3 ∷ 4 ∷ 5 ∷ 6 ∷ 7 ∷ 8 ∷ 12 ∷ 9 ∷ 10 ∷ 11 ∷ []
+order = 1 ∷ 2 ∷ 3 ∷ 4 ∷ 5 ∷ 6 ∷ 7 ∷ 8 ∷ 12 ∷ 9 ∷ 10 ∷ 13 ∷ 11 ∷ []
 
 -- those of the indices, and all that need the report alone
 abbrev pub indices : List ℕ

@@ -70,7 +70,8 @@ module _ (r : PanelReport) {s : Sizes} (e : s ≡ sizesOf (r .n1) (r .n2)) where
 
   -- what every report hands over
   pub asks : (x : Needs) → x .refusal ≡ first (rule r) ownOrder → x .bytes ≡ s .bytes → x .v ≡ r .v
-      → (InRange r → (bitsOf (x .count) (x .width) (x .l) (x .m) ≡ bitsRead r) × (x .entries ≡ r .v * (r .ng * s .ports)))
+      → (InRange r → (bitsOf (x .count) (x .width) (x .l) (x .m) ≡ bitsRead r) × (x .ports ≡ r .ng * s .ports)
+      × (x .entries ≡ r .v * (r .ng * s .ports)))
       → Asks panels r indices x
   unfolding each
   asks x k bytes v accepted = record {
@@ -80,7 +81,10 @@ module _ (r : PanelReport) {s : Sizes} (e : s ≡ sizesOf (r .n1) (r .n2)) where
     bytes-are = λ h _. bytes ∙ bytes-are (λ z. h (k ∙ z));
     layers-are = v;
     bits-are = λ z. accepted (zero-in-range r (sym k ∙ z)) .0;
+    ports-are = λ z.
+        let h = zero-in-range r (sym k ∙ z) in
+        accepted h .1 ∙ ports-are h;
     entries-are = λ z.
         let h = zero-in-range r (sym k ∙ z) in
-        accepted h .1 ∙ ap (λ (p : ℕ). r .v * p) (ports-are h);
+        accepted h .2 ∙ ap (λ (p : ℕ). r .v * p) (ports-are h);
   }

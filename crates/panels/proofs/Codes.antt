@@ -2,7 +2,7 @@
 use mathlib.Core.Path.{_≡_, refl}
 use mathlib.Core.Bool.{Bool, true, false, cond, _&&_}
 use mathlib.Core.List.{List, [], _∷_, map}
-use Prim.Native.Nat.{ℕ, _+_, _*_, _<_}
+use Prim.Native.Nat.{ℕ, _+_, _*_, _%_, _<_}
 use native.Mathlib.Omega.{arith}
 use lib.Dec.{T, eqb}
 use lib.ListN.{getD}
@@ -50,14 +50,16 @@ module _ (c : Column) (co : List ℕ) where
     pub first : phase (coAt co (codeOf c) (2 * i)) ≡ phase (x .0)
     pub second : phase (coAt co (codeOf c) (2 * i + 1)) ≡ phase (x .1 + cond (minus c) half 0)
 
+  -- where nine bits hold its co-phases
   pub panel : (i : ℕ) (x : ℕ × ℕ) → i < 4
+      → getD co (2 * i) 0 % 512 ≡ getD co (2 * i) 0 → getD co (2 * i + 1) 0 % 512 ≡ getD co (2 * i + 1) 0
       → phase (getD co (2 * i) 0) ≡ phase (x .0) → phase (getD co (2 * i + 1) 0) ≡ phase (x .1) → Panel i x
   unfolding coAt
-  panel i x h p q =
+  panel i x h small small′ p q =
       let (even, odd) = code-marks c i h in
       record {
-        first = rw (code-takes c, even) (omega arith);
-        second = rw (code-takes c, odd) (by-minus (minus c));
+        first = rw (code-takes c, even, small) (omega arith);
+        second = rw (code-takes c, odd, small′) (by-minus (minus c));
       }
     where
       by-minus : (m : Bool) → phase (1 * getD co (2 * i + 1) 0 + cond m 1 0 * half) ≡ phase (x .1 + cond m half 0)

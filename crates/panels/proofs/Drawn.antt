@@ -37,23 +37,23 @@ co-drawn r h c =
     (λ e.
     rw (e, mode-two r h (eqb-true (r .mode) 2 e))
     (two-panels c _
-    (panel c _ 0 _ (few 0 tt) refl (omega arith))
-    (panel c _ 1 _ (few 1 tt) (omega arith) (omega arith))))
+    (panel c _ 0 _ (few 0 tt) (omega arith) (omega arith) refl (omega arith))
+    (panel c _ 1 _ (few 1 tt) (omega arith) (omega arith) (omega arith) (omega arith))))
     (λ e.
     rw e
     (either (eqb (r .ng) 2)
     (λ f.
     rw (f, eqb-true (r .ng) 2 f)
     (two-panels c _
-    (panel c _ 0 _ (few 0 tt) refl (omega arith))
-    (panel c _ 1 _ (few 1 tt) (omega arith) (omega arith))))
+    (panel c _ 0 _ (few 0 tt) (omega arith) (omega arith) refl (omega arith))
+    (panel c _ 1 _ (few 1 tt) (omega arith) (omega arith) (omega arith) (omega arith))))
     (λ f.
     rw (f, four-panels r h (eqb-false (r .ng) 2 f))
     (all-panels c _
-    (panel c _ 0 _ (few 0 tt) refl (omega arith))
-    (panel c _ 1 _ (few 1 tt) (omega arith) (omega arith))
-    (panel c _ 2 _ (few 2 tt) (omega arith) (omega arith))
-    (panel c _ 3 _ (few 3 tt) (omega arith) (omega arith))))))
+    (panel c _ 0 _ (few 0 tt) (omega arith) (omega arith) refl (omega arith))
+    (panel c _ 1 _ (few 1 tt) (omega arith) (omega arith) (omega arith) (omega arith))
+    (panel c _ 2 _ (few 2 tt) (omega arith) (omega arith) (omega arith) (omega arith))
+    (panel c _ 3 _ (few 3 tt) (omega arith) (omega arith) (omega arith) (omega arith))))))
 
 -- (i11,i12) and B′, placed by rank, are the beams of the layers
 pub beams-placed : (r : PanelReport) → InRange r → {b : Beam} → b ≡ reached r B′

@@ -60,9 +60,9 @@ pub record HasBeams (r : PanelReport) (x : Needs) : Type 0 where
   pub l : x .l ≡ reached r B .l ∷ reached r B′ .l ∷ 0 ∷ 0 ∷ []
   pub m : x .m ≡ reached r B .m ∷ reached r B′ .m ∷ 0 ∷ 0 ∷ []
 
--- the steps of a beam in parts of a turn, x + 256·y
+-- the steps of a beam in parts of a turn, x + 512·y
 abbrev pub stepOf : PanelReport → Beam → ℕ
-stepOf r x = x .l * (turn / across (r .n1)) + 256 * (x .m * (turn / down (r .n2)))
+stepOf r x = x .l * (turn / across (r .n1)) + 512 * (x .m * (turn / down (r .n2)))
 
 -- those of B and B′, in four places
 abbrev pub stepsOf : PanelReport → List ℕ

@@ -78,6 +78,7 @@ pub fn needs_of(r: PanelReport, o: Own) -> Needs
             refusal: o.refusal,
             bytes: s.bytes,
             v: r.v,
+            ports: 0,
             entries: 0,
             count: 0,
             width: 0,
@@ -92,6 +93,7 @@ pub fn needs_of(r: PanelReport, o: Own) -> Needs
         refusal: 0,
         bytes: s.bytes,
         v: r.v,
+        ports: ports,
         entries: entries,
         count: count,
         width: s.down,
@@ -151,12 +153,12 @@ pub fn co_of(r: PanelReport) -> [Part; 8]
     four_panels(f, p1, p2, p[2])
 }
 
-// The steps of the beam (l,m), x + 256·y.
+// The steps of the beam (l,m), x + 512·y.
 fn step_of(l: u32, m: u32, s: Sizes) -> u32
     requires { ⌜ (l ≤ 255) × (m ≤ 255) × (1 ≤ s .across) × (1 ≤ s .down) ⌝ }
-    ensures { λ x. ⌜ x ≡ l * (turn / s .across) + 256 * (m * (turn / s .down)) ⌝ }
+    ensures { λ x. ⌜ x ≡ l * (turn / s .across) + 512 * (m * (turn / s .down)) ⌝ }
 {
-    l * (turn::TURN as u32 / s.across) + 256 * (m * (turn::TURN as u32 / s.down))
+    l * (turn::TURN as u32 / s.across) + 512 * (m * (turn::TURN as u32 / s.down))
 }
 
 // The steps of B and B', in four places.

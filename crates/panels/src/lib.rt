@@ -11,14 +11,14 @@ ghost use Rattle.panels.specs.Drawing.{drawingOf};
 
 mod layers;
 
-// Judges a report by the refusals 1 to 12: the first that applies is given, and otherwise what is to be written. `room` is
+// Judges a report by the refusals 1 to 13: the first that applies is given, and otherwise what is to be written. `room` is
 // the number of entries for which the lent buffer has room.
-fn judge(r: PanelReport, mask: &[u8], ranks: u8, room: usize) -> Judged
-    ensures { λ c. ⌜ c ≡ judgedBy (planned (plan r)) (drawingOf r) (refusal panels (asked r (now (mask .entry)) ranks room)) ⌝ }
+fn judge(r: PanelReport, mask: &[u8], ranks: u8, offsets: &[Part], room: usize) -> Judged
+    ensures { λ c. ⌜ c ≡ judgedBy (planned (plan r)) (drawingOf r) (refusal panels (asked r (now (mask .entry)) ranks (now (offsets .entry)) room)) ⌝ }
 {
     let o = multi::own_of(r);
     let x = layers::needs_of(r, o);
-    let k = masks::admit_two(x, mask, ranks, room);
+    let k = masks::admit_two(x, mask, ranks, offsets, room);
     if k != 0 {
         return plan::refuse(k);
     }
@@ -41,29 +41,31 @@ fn judge(r: PanelReport, mask: &[u8], ranks: u8, room: usize) -> Judged
 }
 
 // Writes the phases of a report's precoder, in parts of a turn: layer after layer, each of P entries, panel by panel and
-// the first polarisation of a panel first. Masks are those of one panel, and refusals as for the single panel, with 12 for
-// i14 between 8 and 9. (2,2,1) with mode 1, one layer, i11 = 1, i14 = 1 0 0, i2 = 2 0 0 and the rest 0 gives
-// 0 24 96 120 48 72 144 168.
-pub fn phases(r: PanelReport, mask: &[u8], ranks: u8, out: &mut [Part]) -> Record
-    ensures { λ a. ⌜ PhasesLeft panels r (now (mask .entry)) ranks (now (out .entry)) a (now (out .exit)) ⌝ }
+// the first polarisation of a panel first, to each the offset of its port added. Masks are those of one panel, offsets are
+// those of all ports, and refusals as for the single panel, with 12 for i14 between 8 and 9. (2,2,1) with mode 1, one
+// layer, i11 = 1, i14 = 1 0 0, i2 = 2 0 0 and the rest 0 gives 0 48 192 240 96 144 288 336 with offsets of 0.
+pub fn phases(r: PanelReport, mask: &[u8], ranks: u8, offsets: &[Part], out: &mut [Part]) -> Record
+    ensures { λ a. ⌜ PhasesLeft panels r (now (mask .entry)) ranks (now (offsets .entry)) (now (out .entry)) a
+        (now (out .exit)) ⌝ }
 {
-    let c = judge(r, mask, ranks, out.len());
+    let c = judge(r, mask, ranks, offsets, out.len());
     if c.given.refusal != 0 {
         return c.given;
     }
-    render::phases(c.drawing, out);
+    render::phases(c.drawing, offsets, out);
     c.given
 }
 
 // Writes the weights of a report's precoder: for each entry that `phases` writes, x and then y, the pair of the table at
-// its phase. Masks and refusals are those of `phases`, and 11 asks for 2·v·P numbers. All phases are whole 32nds of a turn.
-pub fn weights(r: PanelReport, mask: &[u8], ranks: u8, out: &mut [i16]) -> Record
-    ensures { λ a. ⌜ WeightsLeft panels r (now (mask .entry)) ranks (now (out .entry)) a (now (out .exit)) ⌝ }
+// its phase. Masks, offsets and refusals are those of `phases`, and 11 asks for 2·v·P numbers.
+pub fn weights(r: PanelReport, mask: &[u8], ranks: u8, offsets: &[Part], out: &mut [i16]) -> Record
+    ensures { λ a. ⌜ WeightsLeft panels r (now (mask .entry)) ranks (now (offsets .entry)) (now (out .entry)) a
+        (now (out .exit)) ⌝ }
 {
-    let c = judge(r, mask, ranks, out.len() / 2);
+    let c = judge(r, mask, ranks, offsets, out.len() / 2);
     if c.given.refusal != 0 {
         return c.given;
     }
-    render::coarse_weights(c.drawing, out);
+    render::weights(c.drawing, offsets, out);
     c.given
 }

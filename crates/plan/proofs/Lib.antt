@@ -4,9 +4,13 @@ pub mod Layers
 pub mod Told
 pub mod Drawn
 pub mod Matrix
+pub mod Base
+pub mod Fed
+pub mod FedMatrix
 pub mod Answers
 pub mod Accepted
 pub mod Calls
+pub mod Zeros
 pub mod Demands
 pub mod Masked
 pub mod Longer

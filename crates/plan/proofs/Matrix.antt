@@ -1,27 +1,23 @@
--- The matrix of a plan: its entries are phases; and of a sound one its length, its layers, and what any two of them sum to.
-use mathlib.Core.Path.{_≡_, sym, ap, ap₂, _∙_, subst, subst₂}
+-- The matrix of a plan: its entries are phases; and of a sound one its length, its layers, and that any two of them cancel.
+use mathlib.Core.Path.{_≡_, sym, ap, ap₂, _∙_, subst}
 use mathlib.Core.Logic.{_≢_}
 use mathlib.Core.List.{List, [], _∷_, map}
-use Prim.Native.Nat.{ℕ, _+_, _*_, _/_, _<_, _≤_}
+use Prim.Native.Nat.{ℕ, _+_, _*_, _/_, _<_}
 use native.Mathlib.Nat.{mod-lt, mod-eq-of-lt}
 use native.Mathlib.Omega.{arith}
 use lib.Dec.{lit<}
-use lib.IntN.{natAbs}
 use lib.Arith.{digits-lt}
 use lib.ListN.{length, getD}
 use Rattle.ground.specs.Lists.{join, All, all-nil, all-cons}
-use Rattle.ground.proofs.All.{all-append}
 use Rattle.ground.proofs.Lists.{length-join, join-part, join-entry}
 use Rattle.turn.specs.Phase.{turn, phase}
 use Rattle.turn.specs.Column.{Setting, Divides, product, beam, column}
-use Rattle.turn.specs.Exact.{differences, Orthogonal}
+use Rattle.turn.specs.Exact.{differences}
 use Rattle.turn.specs.Cancel.{Cancels}
 use Rattle.turn.proofs.Lists.{length-beam}
 use Rattle.turn.proofs.Columns.{length-column}
 use Rattle.turn.proofs.Entries.{beam-reduced, entry}
-use Rattle.turn.proofs.Cancel.{cancels-orthogonal, opposites-cancel, beams-cancel}
-use Rattle.weight.specs.Products.{re, im, limit}
-use Rattle.weight.proofs.CrossSum.{between, cross-bound}
+use Rattle.turn.proofs.Cancel.{opposites-cancel, beams-cancel}
 use Rattle.plan.specs.Plan.{Layer, Plan, past, layerAt, columnOf, matrix, layerIn}
 use Rattle.plan.specs.Sound.{StepsFrom, Told, by-co-phases, by-beams, Sound}
 
@@ -46,19 +42,13 @@ told-cancels c whole x y (by-beams l m j1 j2 k1 k2 h h′ apart coarse) =
 
 -- ---- any plan: every entry is a phase
 
-phases-below : (xs : List ℕ) → All (λ x. x < turn) (map phase xs)
+pub phases-below : (xs : List ℕ) → All (λ x. x < turn) (map phase xs)
 phases-below [] = all-nil
 phases-below (x ∷ xs) = all-cons (mod-lt x (lit< tt)) (phases-below xs)
 
-columns-below : (p : Plan) (xs : List Layer) → All (λ x. x < turn) (join (map (columnOf p) xs))
-unfolding join columnOf column
-columns-below p [] = all-nil
-columns-below p (x ∷ xs) =
-    all-append (phases-below (product (x .co) (beam (p .block) (x .l) (x .m)))) (columns-below p xs)
-
-pub matrix-below : (p : Plan) → All (λ x. x < turn) (matrix p)
-unfolding matrix
-matrix-below p = columns-below p (p .layers)
+pub column-below : (p : Plan) (x : Layer) → All (λ e. e < turn) (columnOf p x)
+unfolding columnOf column
+column-below p x = phases-below (product (x .co) (beam (p .block) (x .l) (x .m)))
 
 -- ---- a sound plan
 
@@ -86,20 +76,6 @@ module _ (p : Plan) (s : Sound p) where
     pub layers-cancel : Cancels (differences (columnOf p (layerAt p j)) (columnOf p (layerAt p k)))
     unfolding columnOf
     layers-cancel = told-cancels (p .block) (s .whole) (layerAt p j) (layerAt p k) (s .told j k hj hk ne)
-
-    -- any two are exactly orthogonal
-    pub layers-orthogonal : Orthogonal (layerIn (p .ports) j (matrix p)) (layerIn (p .ports) k (matrix p))
-    layers-orthogonal =
-        subst₂ Orthogonal (sym (matrix-layer j hj)) (sym (matrix-layer k hk)) (cancels-orthogonal _ _ layers-cancel)
-
-    -- and their weights have a small cross-sum
-    pub cross-small : let one = columnOf p (layerAt p j) in let other = columnOf p (layerAt p k) in
-        (natAbs (between re one other) ≤ limit * p .ports) × (natAbs (between im one other) ≤ limit * p .ports)
-    cross-small =
-        let one = columnOf p (layerAt p j) in
-        let other = columnOf p (layerAt p k) in
-        subst (λ (n : ℕ). (natAbs (between re one other) ≤ limit * n) × (natAbs (between im one other) ≤ limit * n))
-        (layer-long j hj) (cross-bound one other layers-cancel)
 
   -- The entry of layer j at (a,b) of block q: the block's co-phase, a·l·turn/(N1·O1) and b·m·turn/(N2·O2), with the layer's
   -- beam (l,m) reduced. b runs fastest, then a, then the blocks, then the layers.

@@ -7,23 +7,25 @@ use lib.Dec.{eqb, ltb}
 use lib.IntN.{ℤ}
 use lib.ListN.{length, drop, replicate}
 use Rattle.ground.specs.Cases.{_⇒_∣_}
-use Rattle.ground.specs.First.{first}
+use Rattle.ground.specs.First.{first, part}
 use Rattle.weight.specs.Table.{weight, numbers}
 use Rattle.plan.specs.declared.Record.{Record}
 use Rattle.plan.specs.declared.Drawing.{Drawing}
 use Rattle.plan.specs.declared.Judged.{Judged}
-use Rattle.plan.specs.Plan.{Plan, noBeam, named, matrix}
+use Rattle.plan.specs.Plan.{Plan, noBeam, named}
+use Rattle.plan.specs.Offsets.{unfit, fedMatrix}
 use Rattle.plan.specs.Masks.{barred, rankBarred}
 
--- what is asked: a report, the masks, and for how many entries the lent buffer has room
+-- what is asked: a report, the masks, the offsets of the ports, and for how many entries the lent buffer has room
 pub record Request (R : Type 0) : Type 0 where
   pub report : R
   pub mask : List ℕ
   pub ranks : ℕ
+  pub offsets : List ℕ
   pub room : ℕ
 
-abbrev pub asked : {R : Type 0} → R → List ℕ → ℕ → ℕ → Request R
-asked r mask ranks room = record { report = r; mask = mask; ranks = ranks; room = room }
+abbrev pub asked : {R : Type 0} → R → List ℕ → ℕ → List ℕ → ℕ → Request R
+asked r mask ranks offsets room = record { report = r; mask = mask; ranks = ranks; offsets = offsets; room = room }
 
 -- A codebook over reports R: the tests that need the report alone, by number; the order in which all are tried; the bytes of
 -- the beam mask, the bits of it that a report reads, whether these are bits of beams and then how many there are for each
@@ -40,7 +42,7 @@ pub record Codebook (R : Type 0) : Type 0 where
 
 -- the numbers whose tests every codebook shares; the others are its own
 abbrev pub shared : ℕ → Bool
-shared k = eqb k 3 || eqb k 5 || eqb k 10 || eqb k 11
+shared k = eqb k 3 || eqb k 5 || eqb k 10 || eqb k 13 || eqb k 11
 
 abbrev pub own : ℕ → Bool
 own k = not (shared k)
@@ -77,10 +79,11 @@ module _ {R : Type 0} (b : Codebook R) where
       ∣ eqb k 5 ⇒ rankBarred ranks (b .plan r .v)
       ∣ b .rule r k
 
-  -- the test of each number: 10 a barred beam, 11 the room
+  -- the test of each number: 10 a barred beam, 13 the offsets, 11 the room
   unfoldable pub test : Request R → ℕ → Bool
   test q k =
       eqb k 10 ⇒ barred (q .mask) (b .bitsRead (q .report))
+      ∣ eqb k 13 ⇒ unfit (b .plan (q .report) .ports) (q .offsets)
       ∣ eqb k 11 ⇒ ltb (q .room) (b .plan (q .report) .v * b .plan (q .report) .ports)
       ∣ early (q .report) (length (q .mask)) (q .ranks) k
 
@@ -88,22 +91,28 @@ module _ {R : Type 0} (b : Codebook R) where
   unfoldable pub refusal : Request R → ℕ
   refusal q = first (test q) (b .order)
 
+  -- the refusal before there were offsets: that of the order without 13
+  unfoldable pub baseRefusal : Request R → ℕ
+  baseRefusal q = first (test q) (part (λ k. not (eqb k 13)) (b .order))
+
   -- a call with room for so many entries, by the answer that the buffer is to hold
-  abbrev pub Called : {A : Type 0} → R → List ℕ → ℕ → ℕ → List A → List A → Record → List A → Type 0
-  Called r mask ranks room answer lent given left =
-      Answers (refusal (asked r mask ranks room)) (planned (b .plan r)) answer lent given left
+  abbrev pub Called : {A : Type 0} → R → List ℕ → ℕ → List ℕ → ℕ → List A → List A → Record → List A → Type 0
+  Called r mask ranks offsets room answer lent given left =
+      Answers (refusal (asked r mask ranks offsets room)) (planned (b .plan r)) answer lent given left
 
   -- a call of `phases`: an entry is a number of parts of a turn
-  abbrev pub PhasesLeft : R → List ℕ → ℕ → List ℕ → Record → List ℕ → Type 0
-  PhasesLeft r mask ranks lent given left = Called r mask ranks (length lent) (matrix (b .plan r)) lent given left
+  abbrev pub PhasesLeft : R → List ℕ → ℕ → List ℕ → List ℕ → Record → List ℕ → Type 0
+  PhasesLeft r mask ranks offsets lent given left =
+      Called r mask ranks offsets (length lent) (fedMatrix offsets (b .plan r)) lent given left
 
-  -- the weights of a report's matrix, as they are stored
-  unfoldable pub weightsOf : R → List ℤ
-  weightsOf r = numbers (map weight (matrix (b .plan r)))
+  -- the weights of a report's precoder with offsets, as they are stored
+  unfoldable pub weightsOf : List ℕ → R → List ℤ
+  weightsOf offsets r = numbers (map weight (fedMatrix offsets (b .plan r)))
 
   -- a call of `weights`: an entry is two numbers, so that 11 is given where there are fewer than 2·v·P
-  abbrev pub WeightsLeft : R → List ℕ → ℕ → List ℤ → Record → List ℤ → Type 0
-  WeightsLeft r mask ranks lent given left = Called r mask ranks (length lent / 2) (weightsOf r) lent given left
+  abbrev pub WeightsLeft : R → List ℕ → ℕ → List ℕ → List ℤ → Record → List ℤ → Type 0
+  WeightsLeft r mask ranks offsets lent given left =
+      Called r mask ranks offsets (length lent / 2) (weightsOf offsets r) lent given left
 
 -- nothing to write
 abbrev pub blank : Drawing

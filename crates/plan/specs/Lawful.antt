@@ -13,9 +13,9 @@ use Rattle.plan.specs.Answer.{Codebook, own}
 
 -- `InRange` is the codebook's own word for a report that its rules allow.
 pub record Lawful {R : Type 0} (b : Codebook R) (InRange : R → Type 0) : Type 0 where
-  -- no number is 0, and 10 and 11 are in the order
+  -- no number is 0, and 10, 13 and 11 are in the order
   pub order-numbered : T (numbered (b .order))
-  pub last-two : T (among 10 (b .order)) × T (among 11 (b .order))
+  pub last-three : T (among 10 (b .order)) × T (among 13 (b .order)) × T (among 11 (b .order))
   -- a report is in range exactly when none of the codebook's own tests holds
   pub in-range : (r : R) → None (b .rule r) (part own (b .order)) ↔ InRange r
   pub sound : (r : R) → InRange r → Sound (b .plan r)

@@ -5,7 +5,7 @@ use mathlib.Core.Bool.{Bool}
 use mathlib.Core.List.{List}
 use Prim.Native.Nat.{ℕ, _+_, _*_, _/_, _%_, _<_, _≤_}
 use lib.ListN.{length}
-use Rattle.turn.specs.Phase.{turn, eighth, twelfth, thirtySecond}
+use Rattle.turn.specs.Phase.{turn, eighth, twelfth}
 use Rattle.turn.specs.Column.{Setting, Divides}
 use Rattle.turn.specs.Exact.{differences}
 use Rattle.turn.specs.Cancel.{Multiples, Twelfths}
@@ -26,7 +26,7 @@ pub data Told (c : Setting) (x y : Layer) : Type 0 where
       → Common c 3 ⊎ (Common c twelfth × Twelfths (differences (x .co) (y .co))) → Told c x y
 
 -- Beside its sizes: the beam of each layer is reduced; its co-phases are one for each block, whole eighths of a turn; and
--- where P divides 16, the steps of a beam are whole 32nds of a turn.
+-- the steps of a beam are even, so that 01's parts count them.
 pub record Sound (p : Plan) : Type 0 where
   pub whole : Divides (p .block)
   pub all : p .blocks * (p .block .n1 * p .block .n2) ≡ p .ports
@@ -42,6 +42,5 @@ pub record Sound (p : Plan) : Type 0 where
   pub reduced-m : (j : ℕ) → j < p .v → layerAt p j .m < p .block .n2 * p .block .o2
   pub long : (j : ℕ) → j < p .v → length (layerAt p j .co) ≡ p .blocks
   pub eighths : (j : ℕ) → j < p .v → Multiples eighth (layerAt p j .co)
-  pub coarse : 16 % p .ports ≡ 0
-      → (turn / (p .block .n1 * p .block .o1) % thirtySecond ≡ 0) × (turn / (p .block .n2 * p .block .o2) % thirtySecond ≡ 0)
+  pub even-steps : (turn / (p .block .n1 * p .block .o1) % 2 ≡ 0) × (turn / (p .block .n2 * p .block .o2) % 2 ≡ 0)
   pub told : (j k : ℕ) → j < p .v → k < p .v → j ≢ k → Told (p .block) (layerAt p j) (layerAt p k)

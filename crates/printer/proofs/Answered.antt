@@ -1,4 +1,5 @@
--- What the printing program refuses: its masks bar nothing and its buffer has room, so that the report alone decides.
+-- What the printing program refuses: its masks bar nothing, its offsets are 0 and its buffer has room, so that the report
+-- alone decides.
 use mathlib.Core.Path.{_≡_, refl, sym, ap, _∙_}
 use mathlib.Core.Logic.{_≢_}
 use mathlib.Core.Bool.{Bool, true, false, not, _||_}
@@ -6,7 +7,7 @@ use mathlib.Core.List.{List, [], _∷_, _++_}
 use Prim.Native.Nat.{ℕ, zero, suc, _-_, _*_, _/_, _%_, _<_}
 use native.Mathlib.Nat.{mul-le-mul}
 use native.Mathlib.Omega.{arith}
-use lib.Dec.{T, eqb, eqb-refl, eqb→eq}
+use lib.Dec.{T, eqb, leb, eqb-refl, eqb→eq}
 use lib.ListN.{length, replicate, length-replicate, getD-replicate}
 use borrow.Author.Tests.{not-false, eq-eqb, le-ltb}
 use Rattle.ground.specs.Lists.{some, each, every, among}
@@ -14,6 +15,7 @@ use Rattle.ground.specs.First.{first, numbered}
 use Rattle.ground.proofs.Booleans.{cond-both}
 use Rattle.ground.proofs.Tests.{and-left, and-right, or-left, or-right, every-at}
 use Rattle.ground.proofs.First.{first-none, first-stop, first-insert, none-zero, none-within}
+use Rattle.turn.specs.Phase.{turn}
 use Rattle.settings.specs.Settings.{isSetting, ports, maskBytes}
 use Rattle.settings.specs.Ranges.{isRank}
 use Rattle.settings.proofs.Known.{ports-few}
@@ -21,11 +23,12 @@ use Rattle.settings.proofs.Ranked.{rank-of}
 use Rattle.report.specs.declared.Report.{Report}
 use Rattle.report.specs.Rules.{rule, ownOrder, InRange}
 use Rattle.report.proofs.InRange.{in-range}
+use Rattle.plan.specs.Offsets.{unfit}
 use Rattle.plan.specs.Masks.{bitOf, bit, isZero, barred, rankBarred}
 use Rattle.plan.specs.Answer.{early, test, refusal}
 use Rattle.single.specs.Single.{single}
 use Rattle.single.proofs.Lawful.{single-lawful}
-use Rattle.printer.specs.Prints.{fullMask, askedOf, refusalOf}
+use Rattle.printer.specs.Prints.{fullMask, noOffsets, askedOf, refusalOf}
 
 -- ---- the first of a list whose test holds
 
@@ -64,11 +67,22 @@ not-barred mask (k ∷ ks) h =
     rw (h k (or-left (eqb k k) (among k ks) (eqb-refl k)))
     (not-barred mask ks (λ j t. h j (or-right (eqb j k) (among j ks) t)))
 
+-- ---- offsets of 0
+
+none-high : (n : ℕ) → some (leb turn) (replicate n 0) ≡ false
+unfolding some
+none-high zero = refl
+none-high (suc n) = none-high n
+
+zeros-fit : (n : ℕ) → unfit n (replicate n 0) ≡ false
+unfolding unfit
+zeros-fit n = rw (eq-eqb _ n (length-replicate {A = ℕ} n 0), none-high n)
+
 module _ (r : Report) where
   abbrev tests : ℕ → Bool
   tests = test single (askedOf r)
 
-  -- ---- the tests of 3, 5, 10 and 11, where those before them fail
+  -- ---- the tests of 3, 5, 10, 13 and 11, where those before them fail
 
   -- the mask of a setting has the bytes that it needs
   mask-is : isSetting (r .n1) (r .n2) ≡ true → fullMask (r .n1) (r .n2) ≡ replicate (maskBytes (r .n1) (r .n2)) 255
@@ -107,6 +121,11 @@ module _ (r : Report) where
       rw (mask-is (h .setting))
       (not-barred _ _ (λ k t. full-bit (maskBytes (r .n1) (r .n2)) k (single-lawful .within r h k t)))
 
+  -- a setting has an offset of 0 for each port
+  fed-zeros : InRange r → tests 13 ≡ false
+  unfolding test noOffsets
+  fed-zeros h = rw (h .setting) (zeros-fit (ports (r .n1) (r .n2)))
+
   -- 8 layers of 32 ports
   room : InRange r → tests 11 ≡ false
   unfolding test
@@ -120,15 +139,16 @@ module _ (r : Report) where
   pub refused-by-report : refusalOf r ≡ first (rule r) (1 ∷ 2 ∷ 4 ∷ 6 ∷ 7 ∷ 8 ∷ 9 ∷ [])
   unfolding first test early refusal refusalOf
   refused-by-report =
-      first-without tests before (11 ∷ []) 10 (λ e. open-beams (passed e))
+      first-without tests before (13 ∷ 11 ∷ []) 10 (λ e. open-beams (passed e))
+      ∙ first-without tests before (11 ∷ []) 13 (λ e. fed-zeros (passed e))
       ∙ first-without tests before [] 11 (λ e. room (passed e))
       ∙ first-without tests (1 ∷ 2 ∷ 3 ∷ 4 ∷ []) (6 ∷ 7 ∷ 8 ∷ 9 ∷ []) 5 ranked
       ∙ first-without tests (1 ∷ 2 ∷ []) (4 ∷ 6 ∷ 7 ∷ 8 ∷ 9 ∷ []) 3 sized
 
-  -- and so never by 3, 5, 10 or 11
-  pub never-given : (refusalOf r ≢ 3) × (refusalOf r ≢ 5) × (refusalOf r ≢ 10) × (refusalOf r ≢ 11)
+  -- and so never by 3, 5, 10, 13 or 11
+  pub never-given : (refusalOf r ≢ 3) × (refusalOf r ≢ 5) × (refusalOf r ≢ 10) × (refusalOf r ≢ 13) × (refusalOf r ≢ 11)
   unfolding each
   never-given =
-      let given : ℕ → Bool = λ k. not (eqb k 3 || eqb k 5 || eqb k 10 || eqb k 11) in
+      let given : ℕ → Bool = λ k. not (eqb k 3 || eqb k 5 || eqb k 10 || eqb k 13 || eqb k 11) in
       let passes = rw (← refused-by-report) at (first-passes given (rule r) tt ownOrder tt) in
-      (λ e. rw e at passes, λ e. rw e at passes, λ e. rw e at passes, λ e. rw e at passes)
+      (λ e. rw e at passes, λ e. rw e at passes, λ e. rw e at passes, λ e. rw e at passes, λ e. rw e at passes)

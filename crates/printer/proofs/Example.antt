@@ -11,8 +11,9 @@ use Rattle.settings.specs.Ranges.{modeTwo, halfLength, kTwo, kRows, halvesI11, 
 use Rattle.settings.specs.Ranges.{i13Values, i2Values}
 use Rattle.report.specs.declared.Report.{Report}
 use Rattle.report.specs.Rules.{rule}
-use Rattle.report.specs.Beams.{n, base, offsets, moved, beams}
-use Rattle.plan.specs.Plan.{columnOf, matrix}
+use Rattle.report.specs.Beams.{n, base, moves, moved, beams}
+use Rattle.plan.specs.Plan.{columnOf}
+use Rattle.plan.specs.Offsets.{fed, unfit, fedColumn, fedMatrix}
 use Rattle.plan.specs.Masks.{bit, isZero, barred, rankBarred}
 use Rattle.plan.specs.Answer.{early, test, refusal}
 use Rattle.single.specs.Columns.{byRank}
@@ -23,7 +24,7 @@ use Rattle.text.specs.Text.{okText, linesOf, recordText}
 use Rattle.line.specs.declared.Reading.the-variants.{Read, Unreadable}
 use Rattle.line.specs.Form.{isDigit, valueAfter, isDecimal, Reads}
 use Rattle.line.specs.Scan.{lead, isEnded}
-use Rattle.printer.specs.Prints.{fullMask, refusalOf, textOf}
+use Rattle.printer.specs.Prints.{fullMask, noOffsets, refusalOf, textOf}
 use Rattle.line.proofs.Scanned.{rest, words, good}
 use Rattle.line.proofs.Forms.{reads-report, reads-nothing}
 
@@ -38,19 +39,19 @@ pub example-read : Reads (example ++ newline ∷ []) (Read report)
 unfolding good words rest isEnded lead isDecimal each isDigit valueAfter ending
 example-read = reads-report _ (omega arith) refl refl
 
--- `ok 4 2 8`, `0 168 0 168` and `0 72 96 168`
+-- `ok 4 2 8`, `0 336 0 336` and `0 144 192 336`
 pub example-text : textOf (Read report)
     ≡ (111 ∷ 107 ∷ 32 ∷ 52 ∷ 32 ∷ 50 ∷ 32 ∷ 56 ∷ 10 ∷ [])
-    ++ (48 ∷ 32 ∷ 49 ∷ 54 ∷ 56 ∷ 32 ∷ 48 ∷ 32 ∷ 49 ∷ 54 ∷ 56 ∷ 10 ∷ [])
-    ++ (48 ∷ 32 ∷ 55 ∷ 50 ∷ 32 ∷ 57 ∷ 54 ∷ 32 ∷ 49 ∷ 54 ∷ 56 ∷ 10 ∷ [])
+    ++ (48 ∷ 32 ∷ 51 ∷ 51 ∷ 54 ∷ 32 ∷ 48 ∷ 32 ∷ 51 ∷ 51 ∷ 54 ∷ 10 ∷ [])
+    ++ (48 ∷ 32 ∷ 49 ∷ 52 ∷ 52 ∷ 32 ∷ 49 ∷ 57 ∷ 50 ∷ 32 ∷ 51 ∷ 51 ∷ 54 ∷ 10 ∷ [])
 unfolding
     join some first steps product grid step beam column
     settings isSetting maskBytes modeTwo halfLength kTwo kRows
     halvesI11 i11Values halvesI12 i12Values i13Values i2Values
-    rule n base offsets moved beams
-    byRank whole layers columnOf matrix
+    rule n base moves moved beams
+    byRank whole layers columnOf fed unfit fedColumn fedMatrix
     bit isZero barred rankBarred bitsRead early test refusal
-    ending joined decimalIn lineOf headed okText linesOf recordText fullMask refusalOf
+    ending joined decimalIn lineOf headed okText linesOf recordText fullMask noOffsets refusalOf
 example-text = refl
 
 pub without-newline : Reads example Unreadable

@@ -4,22 +4,17 @@ use mathlib.Core.List.{List}
 use Prim.Native.Nat.{ℕ, _≤_}
 use native.Mathlib.Omega.{arith}
 use lib.ListN.{length}
-use Rattle.ground.proofs.All.{all-each}
-use Rattle.plan.specs.Plan.{matrix}
-use Rattle.plan.proofs.Matrix.{matrix-below}
-use Rattle.single.specs.Plan.{plan}
 use Rattle.text.specs.Text.{longest}
 use Rattle.text.proofs.Writes.{fits-written}
 use Rattle.text.proofs.Records.{record-few, unreadable-few}
 use Rattle.line.specs.declared.Reading.{Reading}
 use Rattle.line.specs.declared.Reading.the-variants.{Read, Unreadable}
 use Rattle.printer.specs.declared.Printed.{Printed}
-use Rattle.printer.specs.Prints.{recordFor, answerOf, textOf, Prints}
-use Rattle.printer.proofs.Texts.{record-limits}
+use Rattle.printer.specs.Prints.{recordFor, phasesFor, answerOf, textOf, Prints}
+use Rattle.printer.proofs.Texts.{record-limits, phases-few}
 
 pub text-few : (a : Reading) → length (textOf a) ≤ longest
-text-few (Read r) =
-    record-few (recordFor r) (matrix (plan r)) (record-limits r) (all-each (λ x h. omega arith) (matrix-below (plan r)))
+text-few (Read r) = record-few (recordFor r) (phasesFor r) (record-limits r) (phases-few r)
 text-few Unreadable = unreadable-few
 
 -- where so many bytes are lent the answer is never that there is no room

@@ -7,9 +7,9 @@ use lib.Dec.{eqb}
 use lib.ListN.{replicate}
 use Rattle.ground.specs.Cases.{_⇒_∣_}
 use Rattle.plan.specs.declared.Record.{Record}
-use Rattle.plan.specs.Plan.{matrix}
+use Rattle.plan.specs.Offsets.{fedMatrix}
 use Rattle.plan.specs.Answer.{Request, asked, planned, recordOf, refusal}
-use Rattle.settings.specs.Settings.{isSetting, maskBytes}
+use Rattle.settings.specs.Settings.{isSetting, ports, maskBytes}
 use Rattle.report.specs.declared.Report.{Report}
 use Rattle.single.specs.Plan.{plan}
 use Rattle.single.specs.Single.{single}
@@ -26,16 +26,23 @@ use Rattle.line.specs.Form.{Reads}
 unfoldable pub fullMask : ℕ → ℕ → List ℕ
 fullMask n1 n2 = replicate (isSetting n1 n2 ⇒ maskBytes n1 n2 ∣ 0) 255
 
--- all mask bits are ones, and there is room for the largest matrix
+-- the offsets of its ports, all 0; a pair that is no setting has none
+unfoldable pub noOffsets : ℕ → ℕ → List ℕ
+noOffsets n1 n2 = replicate (isSetting n1 n2 ⇒ ports n1 n2 ∣ 0) 0
+
+-- all mask bits are ones, all offsets are 0, and there is room for the largest matrix
 abbrev pub askedOf : Report → Request Report
-askedOf r = asked r (fullMask (r .n1) (r .n2)) 255 256
+askedOf r = asked r (fullMask (r .n1) (r .n2)) 255 (noOffsets (r .n1) (r .n2)) 256
 
 unfoldable pub refusalOf : Report → ℕ
 refusalOf r = refusal single (askedOf r)
 
--- the record for a report
+-- the record for a report, and the phases of its precoder
 abbrev pub recordFor : Report → Record
 recordFor r = recordOf (planned (plan r)) (refusalOf r)
+
+abbrev pub phasesFor : Report → List ℕ
+phasesFor r = fedMatrix (noOffsets (r .n1) (r .n2)) (plan r)
 
 -- what an accepted record tells in the first line of its text
 abbrev pub firstLineOf : Record → FirstLine
@@ -50,7 +57,7 @@ answerOf (Read r) = answerBy (recordFor r)
 answerOf Unread = Unreadable
 
 abbrev pub textOf : Reading → List ℕ
-textOf (Read r) = recordText (recordFor r) (matrix (plan r))
+textOf (Read r) = recordText (recordFor r) (phasesFor r)
 textOf Unread = unreadableText
 
 -- What is given and left: the answer, and its text at the front of the buffer with what was lent after it; or, where the

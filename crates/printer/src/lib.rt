@@ -65,22 +65,25 @@ fn given(answer: Answer, n: usize) -> Printed
     }
 }
 
-// The text for a report, all mask bits ones.
+// The text for a report, all mask bits ones and all offsets 0.
 fn answer_to(r: Report, out: &mut [u8]) -> Printed
     ensures { λ p. ⌜ Outcome (Read r) (now (out .entry)) p (now (out .exit)) ⌝ }
 {
-    let bytes = settings::mask_bytes(r.n1, r.n2) as usize;
+    let sizes = settings::sizes_of(r.n1, r.n2);
+    let bytes = sizes.bytes as usize;
+    let ports = sizes.ports as usize;
     let ones = [255; 32];
+    let zeros = [0; 32];
     let mut phases = [0; 256];
-    let a = precoder::phases(r, &ones[..bytes], 255, &mut phases);
+    let a = precoder::phases(r, &ones[..bytes], 255, &zeros[..ports], &mut phases);
     let n = text::answer(a, &phases, out);
     given(answer_by(a), n)
 }
 
-// Answers a line by text, with all bits of both masks ones: `ok`, P, v and the scale, and then a line of phases for each
-// layer; or `refused` and the number; or `unreadable`. Each line ends with a newline. The text stands at the front of the
-// lent buffer, and bytes after it stay. Where the text has more bytes than are lent, the answer is NoRoom and every byte
-// stays. The line of the example above gives `ok 4 2 8`, `0 168 0 168` and `0 72 96 168`.
+// Answers a line by text, with all bits of both masks ones and all offsets 0: `ok`, P, v and the scale, and then a line of
+// phases for each layer; or `refused` and the number; or `unreadable`. Each line ends with a newline. The text stands at the
+// front of the lent buffer, and bytes after it stay. Where the text has more bytes than are lent, the answer is NoRoom and
+// every byte stays. The line `2 1 1 2 7 0 1 0` and a newline gives `ok 4 2 8`, `0 336 0 336` and `0 144 192 336`.
 pub fn print(line: &[u8], out: &mut [u8]) -> Printed
     ensures { λ p. ⌜ Prints (now (line .entry)) (now (out .entry)) p (now (out .exit)) ⌝ }
 {

@@ -1,16 +1,16 @@
 -- A report that was judged, of any lawful codebook: refused it leaves all as lent, and else what is written of its drawing
 -- is the answer.
 use mathlib.Core.Path.{_≡_, refl, sym, subst}
-use mathlib.Core.Bool.{Bool, true}
 use mathlib.Core.List.{List}
-use Prim.Native.Nat.{ℕ, _*_, _/_, _%_, _≤_}
+use Prim.Native.Nat.{ℕ, _*_, _/_, _≤_}
 use native.Mathlib.Omega.{arith}
 use lib.IntN.{ℤ}
 use lib.ListN.{length}
 use Rattle.ground.specs.Lists.{over}
 use Rattle.plan.specs.declared.Drawing.{Drawing}
 use Rattle.plan.specs.declared.Judged.{Judged}
-use Rattle.plan.specs.Plan.{Plan, matrix}
+use Rattle.plan.specs.Plan.{Plan}
+use Rattle.plan.specs.Offsets.{fedMatrix}
 use Rattle.plan.specs.Sound.{Sound}
 use Rattle.plan.specs.Answer.{Codebook, planned, asked, refusal, Answers, weightsOf, judgedBy}
 use Rattle.plan.specs.Lawful.{Lawful}
@@ -22,10 +22,10 @@ use Rattle.render.proofs.Planned as written
 
 module _ {R : Type 0} (b : Codebook R) {InRange : R → Type 0} (lawful : Lawful b InRange)
     (drawingOf : R → Drawing) (drawing-draws : (r : R) → InRange r → Draws (b .plan r) (drawingOf r))
-    (r : R) (mask : List ℕ) (ranks room : ℕ) {c : Judged}
-    (e : c ≡ judgedBy (planned (b .plan r)) (drawingOf r) (refusal b (asked r mask ranks room))) where
+    (r : R) (mask : List ℕ) (ranks : ℕ) (offsets : List ℕ) (room : ℕ) {c : Judged}
+    (e : c ≡ judgedBy (planned (b .plan r)) (drawingOf r) (refusal b (asked r mask ranks offsets room))) where
   abbrev number : ℕ
-  number = refusal b (asked r mask ranks room)
+  number = refusal b (asked r mask ranks offsets room)
 
   abbrev plan : Plan
   plan = b .plan r
@@ -40,7 +40,7 @@ module _ {R : Type 0} (b : Codebook R) {InRange : R → Type 0} (lawful : Lawful
     accepted = answers.judged-accepted number (planned plan) refl (drawingOf r) e z
 
     pub in-range : InRange r
-    in-range = accepted-in-range b lawful r mask ranks room (accepted .0)
+    in-range = accepted-in-range b lawful r mask ranks offsets room (accepted .0)
 
     sound : Sound plan
     sound = lawful .sound r in-range
@@ -50,29 +50,20 @@ module _ {R : Type 0} (b : Codebook R) {InRange : R → Type 0} (lawful : Lawful
 
     -- there is room
     fits : plan .v * plan .ports ≤ room
-    fits = accepted-fits b lawful r mask ranks room (accepted .0)
-
-    -- some ports: no beam is without entries
-    pub ports-some : 1 ≤ c .given .ports
-    ports-some = rw (accepted .1) (written.ports-some plan sound)
-
-    -- where the ports divide 16, the coarse table serves
-    pub coarse-plan : 16 % c .given .ports ≡ 0 → written.Coarse plan
-    coarse-plan d = written.ports-coarse plan sound (rw (accepted .1) at d)
+    fits = accepted-fits b lawful r mask ranks offsets room (accepted .0)
 
     -- what is written is the answer of `phases`
-    pub phases-answer : {lent left : List ℕ} → length lent ≡ room → left ≡ over (fitting (c .drawing) (length lent)) lent
-        → Answers number (planned plan) (matrix plan) lent (c .given) left
+    pub phases-answer : {lent left : List ℕ} → length lent ≡ room → left ≡ over (fitting offsets (c .drawing) (length lent)) lent
+        → Answers number (planned plan) (fedMatrix offsets plan) lent (c .given) left
     phases-answer {lent} l f =
-        let is = written.fitting-is plan (c .drawing) sound draws (length lent) (omega (arith, fits)) in
-        answers.answers-accepted number (planned plan) refl (drawingOf r) e z (matrix plan) lent _ refl (rw is at f)
+        let is = written.fitting-is offsets plan (c .drawing) sound draws (length lent) (omega (arith, fits)) in
+        answers.answers-accepted number (planned plan) refl (drawingOf r) e z (fedMatrix offsets plan) lent _ refl (rw is at f)
 
     -- and of `weights`
-    pub weights-answer : {lent left : List ℤ} (coarse : Bool) → (coarse ≡ true → written.Coarse plan)
-        → length lent / 2 ≡ room → left ≡ over (weightsIn (c .drawing) coarse (length lent)) lent
-        → Answers number (planned plan) (weightsOf b r) lent (c .given) left
+    pub weights-answer : {lent left : List ℤ} → length lent / 2 ≡ room
+        → left ≡ over (weightsIn offsets (c .drawing) (length lent)) lent
+        → Answers number (planned plan) (weightsOf b offsets r) lent (c .given) left
     unfolding weightsOf
-    weights-answer {lent} coarse d l f =
-        let are = written.weights-are plan (c .drawing) sound draws coarse d (length lent)
-        (omega (arith, fits)) in
-        answers.answers-accepted number (planned plan) refl (drawingOf r) e z (weightsOf b r) lent _ refl (rw are at f)
+    weights-answer {lent} l f =
+        let are = written.weights-are offsets plan (c .drawing) sound draws (length lent) (omega (arith, fits)) in
+        answers.answers-accepted number (planned plan) refl (drawingOf r) e z (weightsOf b offsets r) lent _ refl (rw are at f)

@@ -1,7 +1,6 @@
 -- Laws that the proofs share.
 pub mod Written
 pub mod Weighed
-pub mod Rounded
 pub mod Planned
 pub mod Judged
 pub mod Unique

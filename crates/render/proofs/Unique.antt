@@ -4,13 +4,9 @@ use denote.Ref.{now}
 use Rattle.ground.specs.Unique.{UniqueLeft}
 use Rattle.render.proofs.phases.Reads as phases
 use Rattle.render.proofs.weights.Reads as weights
-use Rattle.render.proofs.coarse_weights.Reads as coarse-weights
 
-pub phases-unique : UniqueLeft phases.Learnt (λ k e. now (e .1 .0))
+pub phases-unique : UniqueLeft phases.Learnt (λ k e. now (e .1 .1 .0))
 phases-unique k a r r′ e e′ p q = (refl, p ∙ sym q)
 
 pub weights-unique : UniqueLeft weights.Learnt (λ k e. now (e .1 .1 .0))
 weights-unique k a r r′ e e′ p q = (refl, p ∙ sym q)
-
-pub coarse-weights-unique : UniqueLeft coarse-weights.Learnt (λ k e. now (e .1 .0))
-coarse-weights-unique k a r r′ e e′ p q = (refl, p ∙ sym q)

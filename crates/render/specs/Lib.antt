@@ -1,3 +1,3 @@
--- What contracts cite: what a lent buffer holds afterwards, and a table lent for a lookup.
+-- What contracts cite: what a lent buffer holds afterwards, and phases that are looked up.
 pub mod Rendered
 pub mod Lookup

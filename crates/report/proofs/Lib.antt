@@ -4,7 +4,7 @@ pub mod Judged
 pub mod Listed
 pub mod Base
 pub mod Steps
-pub mod Offsets
+pub mod Moves
 pub mod Reached
 pub mod Unique
 pub mod Examples

@@ -15,10 +15,10 @@ use Rattle.settings.specs.Ranges.{beam}
 use Rattle.settings.proofs.Known.{Known, known, one-by-one}
 use Rattle.report.specs.declared.Report.{Report}
 use Rattle.report.specs.declared.Beams.{Beams}
-use Rattle.report.specs.Beams.{isHalf, base, offsets, moved, beams, four, saidOf}
+use Rattle.report.specs.Beams.{isHalf, base, moves, moved, beams, four, saidOf}
 use Rattle.report.specs.Rules.{InRange}
 use Rattle.report.proofs.InRange.{v-some, two-ports-v}
-use Rattle.report.proofs.Offsets.{whole-few, length-offsets, length-beams, saidAll}
+use Rattle.report.proofs.Moves.{whole-few, length-moves, length-beams, saidAll}
 
 abbrev pub origin : Beam
 origin = beam 0 0
@@ -32,7 +32,7 @@ pub record Reached (n1 n2 : ℕ) (x : Beam) : Type 0 where
 pub beams-within : (r : Report) → isSetting (r .n1) (r .n2) ≡ true → (i : ℕ)
     → Reached (r .n1) (r .n2) (getD (beams r) i origin)
 unfolding beams moved
-beams-within r set i = go (offsets r) i
+beams-within r set i = go (moves r) i
   where
     setting : Known (r .n1) (r .n2)
     setting = known _ _ set
@@ -71,7 +71,7 @@ module _ (r : Report) (h : InRange r) (two : r .n1 ≡ 1) where
       let few = two-ports-v r h two in
       rw (
         length-beams r,
-        length-offsets r,
+        length-moves r,
         lt-leb 7 (r .v) (omega arith),
         lt-leb 5 (r .v) (omega arith),
         two-ports-whole,

@@ -32,7 +32,8 @@ q r = r .i2 / g (r .v)
 unfoldable pub n : Report → ℕ
 n r = inModeTwo r ⇒ r .i2 % g (r .v) ∣ r .i2
 
--- B. The half-length beam of (i11,i12) is N1/2 rows of the beam (2·i11, i12): 2·a·i11 parts at row a.
+-- B. The half-length beam of (i11,i12) is N1/2 rows of the beam (2·i11, i12): at row a 2·a·i11 steps, N1·O1 of which are a
+-- turn.
 unfoldable pub base : Report → Beam
 base r =
     isHalf r ⇒ beam (2 * r .i11) (r .i12)
@@ -47,20 +48,20 @@ abbrev pub sevenEight : ℕ → List Beam
 sevenEight n2 =
     ltb 1 n2 ⇒ beam 0 0 ∷ beam 1 0 ∷ beam 0 1 ∷ beam 1 1 ∷ [] ∣ beam 0 0 ∷ beam 1 0 ∷ beam 2 0 ∷ beam 3 0 ∷ []
 
-unfoldable pub offsets : Report → List Beam
-offsets r =
+unfoldable pub moves : Report → List Beam
+moves r =
     leb 7 (r .v) ⇒ sevenEight (r .n2)
     ∣ leb 5 (r .v) ⇒ fiveSix (r .n2)
     ∣ eqb (r .v) 1 || isHalf r ⇒ beam 0 0 ∷ []
     ∣ beam 0 0 ∷ getD (kRows (r .n1) (r .n2) (r .v)) (r .i13) (beam 0 0) ∷ []
 
--- a beam plus such an offset, reduced
+-- a beam moved so, reduced
 unfoldable pub moved : Report → Beam → Beam → Beam
 moved r x k = beam ((x .l + o1 (r .n1) * k .l) % across (r .n1)) ((x .m + o2 (r .n2) * k .m) % down (r .n2))
 
 -- the beams that the report's columns use
 unfoldable pub beams : Report → List Beam
-beams r = map (moved r (base r)) (offsets r)
+beams r = map (moved r (base r)) (moves r)
 
 -- one number of each of four beams, 0 in unused places
 abbrev pub four : (Beam → ℕ) → List Beam → List ℕ

@@ -16,7 +16,7 @@ use Rattle.settings.specs.Ranges.{beam, halfLength, kTwo, kThree, kRows, i13Val
 use Rattle.settings.proofs.Known.{at-setting}
 use Rattle.report.specs.declared.Report.{Report}
 use Rattle.report.specs.Rules.{InRange}
-use Rattle.report.specs.Beams.{isHalf, offsets}
+use Rattle.report.specs.Beams.{isHalf, moves}
 use Rattle.report.proofs.InRange.{v-few, v-fits}
 use Rattle.plan.proofs.Told.{twoBeams}
 use Rattle.single.specs.Columns.{Added, o, ½, f, f+½, Bracket, byRank, place}
@@ -77,7 +77,7 @@ opposite y y′ = Bool·beq (takesF y) (takesF y′) && halfAgree (second y) (se
 abbrev pub distinct : ℕ → ℕ → Beam → Beam → Bool
 distinct n1 n2 k k′ = twoBeams n1 n2 (k .l) (k .m) (k′ .l) (k′ .m)
 
--- two brackets, with the offsets ks of the beams, are told apart by the one or the other
+-- two brackets, with the moves ks of the beams, are told apart by the one or the other
 abbrev pub toldBy : ℕ → ℕ → List Beam → Bracket → Bracket → Bool
 toldBy n1 n2 ks x y =
     opposite (x .added) (y .added)
@@ -85,9 +85,9 @@ toldBy n1 n2 ks x y =
 
 -- the layers j and k of a report
 abbrev pairApart : Report → ℕ → ℕ → Bool
-pairApart r j k = eqb j k || toldBy (r .n1) (r .n2) (offsets r) (bracket (r .v) j) (bracket (r .v) k)
+pairApart r j k = eqb j k || toldBy (r .n1) (r .n2) (moves r) (bracket (r .v) j) (bracket (r .v) k)
 
--- the offsets depend on four numbers of the report alone
+-- the moves depend on four numbers of the report alone
 abbrev asked : ℕ → ℕ → ℕ → ℕ → Report
 asked n1 n2 v i13 = record { n1 = n1; n2 = n2; mode = 1; v = v; i11 = 0; i12 = 0; i13 = i13; i2 = 0 }
 
@@ -103,12 +103,12 @@ abbrev settingApart : ℕ → ℕ → Bool
 settingApart n1 n2 = every 9 (rankApart n1 n2)
 
 settings-apart : T (each (λ s. settingApart (s .0) (s .1)) settings)
-unfolding settings each every byRank offsets halfLength kRows kTwo kThree agreeing differing
+unfolding settings each every byRank moves halfLength kRows kTwo kThree agreeing differing
 settings-apart = tt
 
 pub layers-apart : (r : Report) → InRange r → isHalf r ≡ false → (j k : ℕ) → j < r .v → k < r .v → j ≢ k
-    → T (toldBy (r .n1) (r .n2) (offsets r) (bracket (r .v) j) (bracket (r .v) k))
-unfolding offsets halfLength kRows i13Values
+    → T (toldBy (r .n1) (r .n2) (moves r) (bracket (r .v) j) (bracket (r .v) k))
+unfolding moves halfLength kRows i13Values
 layers-apart r h e j k hj hk ne =
     let p = ports (r .n1) (r .n2) in
     let n = length (kRows (r .n1) (r .n2) (r .v)) in

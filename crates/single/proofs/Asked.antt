@@ -14,7 +14,7 @@ use Rattle.settings.specs.Settings.{down}
 use Rattle.report.specs.declared.Report.{Report}
 use Rattle.report.specs.declared.Beams.{Beams}
 use Rattle.report.specs.Beams.{beams, four, beamsOf}
-use Rattle.report.proofs.Offsets.{length-beams, offsets-some, offsets-few}
+use Rattle.report.proofs.Moves.{length-beams, moves-some, moves-few}
 use Rattle.masks.specs.declared.Needs.{Needs}
 use Rattle.masks.specs.Admitted.{bitsOf}
 use Rattle.masks.specs.Asks.{Asks}
@@ -57,11 +57,12 @@ module _ (r : Report) {b : Beams} (e : b ≡ beamsOf r) where
       let (h, s) = said-in-range r e z in
       let long = length-beams r in
       rw (s, h .setting, whole-bits r (ne-eqb (r .n1) 1 more) (half-said r h s t))
-      (bits-four (r .n2) (beams r) (omega (arith, offsets-some r)) (omega (arith, offsets-few r)))
+      (bits-four (r .n2) (beams r) (omega (arith, moves-some r)) (omega (arith, moves-few r)))
 
   -- what every report hands over
   pub asks : (x : Needs) → x .refusal ≡ b .refusal → x .bytes ≡ b .bytes → x .v ≡ r .v
-      → (b .refusal ≡ 0 → (bitsOf (x .count) (x .width) (x .l) (x .m) ≡ bitsRead r) × (x .entries ≡ r .v * b .ports))
+      → (b .refusal ≡ 0
+      → (bitsOf (x .count) (x .width) (x .l) (x .m) ≡ bitsRead r) × (x .ports ≡ b .ports) × (x .entries ≡ r .v * b .ports))
       → Asks single r indices x
   unfolding each
   asks x k bytes v accepted = record {
@@ -71,7 +72,10 @@ module _ (r : Report) {b : Beams} (e : b ≡ beamsOf r) where
     bytes-are = λ h _. bytes ∙ bytes-said r e (λ z. h (k ∙ z));
     layers-are = v;
     bits-are = λ z. accepted (sym k ∙ z) .0;
+    ports-are = λ z.
+        let (h, s) = said-in-range r e (sym k ∙ z) in
+        accepted (sym k ∙ z) .1 ∙ ports-are r h s;
     entries-are = λ z.
         let (h, s) = said-in-range r e (sym k ∙ z) in
-        accepted (sym k ∙ z) .1 ∙ ap (λ (p : ℕ). r .v * p) (ports-are r h s);
+        accepted (sym k ∙ z) .2 ∙ ap (λ (p : ℕ). r .v * p) (ports-are r h s);
   }

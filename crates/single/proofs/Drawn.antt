@@ -16,11 +16,11 @@ use Rattle.settings.specs.Ranges.{beam}
 use Rattle.report.specs.declared.Report.{Report}
 use Rattle.report.specs.Rules.{InRange}
 use Rattle.report.specs.Beams.{isHalf, beams}
-use Rattle.report.proofs.Offsets.{offsets-few}
+use Rattle.report.proofs.Moves.{moves-few}
 use Rattle.report.proofs.Reached.{beams-within, four-at}
 use Rattle.plan.specs.Plan.{layerAt, columnOf}
 use Rattle.plan.specs.Drawing.{placeOf, takes, coAt, coRow, beamAt, columnAt, Draws}
-use Rattle.plan.proofs.Drawn.{beam-drawn}
+use Rattle.plan.proofs.Drawn.{nine-bits, beam-drawn}
 use Rattle.single.specs.Columns.{Added, o, ½, f, f+½, byRank, place, phaseOf, quarters}
 use Rattle.single.specs.Plan.{fOf, tOf, blockOf, plan}
 use Rattle.single.specs.Drawing.{codesOf, halfCodes, stepOf, drawingOf}
@@ -46,10 +46,18 @@ half-added : (fn t j : ℕ) → j < 4
     → map phase (coRow (0 ∷ phase t ∷ phase fn ∷ phase (phase fn + phase t) ∷ 0 ∷ 0 ∷ 0 ∷ 0 ∷ []) (getD halfCodes j 0) 4)
     ≡ map phase (getD (quarters fn t) j [])
 unfolding coRow coAt quarters
-half-added fn t zero h = four-same (omega arith) (omega arith) (omega arith) (omega arith)
-half-added fn t (suc zero) h = four-same (omega arith) (omega arith) (omega arith) (omega arith)
-half-added fn t (suc (suc zero)) h = four-same (omega arith) (omega arith) (omega arith) (omega arith)
-half-added fn t (suc (suc (suc zero))) h = four-same (omega arith) (omega arith) (omega arith) (omega arith)
+half-added fn t zero h =
+    rw (nine-bits t, nine-bits fn, nine-bits (phase fn + phase t))
+    (four-same (omega arith) (omega arith) (omega arith) (omega arith))
+half-added fn t (suc zero) h =
+    rw (nine-bits t, nine-bits fn, nine-bits (phase fn + phase t))
+    (four-same (omega arith) (omega arith) (omega arith) (omega arith))
+half-added fn t (suc (suc zero)) h =
+    rw (nine-bits t, nine-bits fn, nine-bits (phase fn + phase t))
+    (four-same (omega arith) (omega arith) (omega arith) (omega arith))
+half-added fn t (suc (suc (suc zero))) h =
+    rw (nine-bits t, nine-bits fn, nine-bits (phase fn + phase t))
+    (four-same (omega arith) (omega arith) (omega arith) (omega arith))
 half-added fn t (suc (suc (suc (suc j)))) h = absurd (omega arith)
 
 -- ---- beams
@@ -90,7 +98,8 @@ module _ (r : Report) (h : InRange r) (j : ℕ) (k : j < r .v) where
       let fs = by-rank (λ v j. takes (c v j)) (λ v j. cond (takesF (y v j)) 1 0) tt in
       let first = by-rank (λ v j. c v j / 1 % 2) (λ v j. 0) tt in
       let second = by-rank (λ v j. c v j / 2 % 2) (λ v j. cond (takesHalf (y v j)) 1 0) tt in
-      rw (fs, first, second) (ap₂ {C = List ℕ} (λ p q. p ∷ q ∷ []) (omega arith) (code-phase (fOf r) (y (r .v) j)))
+      rw (fs, first, second, nine-bits (fOf r))
+      (ap₂ {C = List ℕ} (λ p q. p ∷ q ∷ []) (omega arith) (code-phase (fOf r) (y (r .v) j)))
 
   code-added : map phase (coRow (drawingOf r .co) code (2 * drawingOf r .pairs)) ≡ map phase (addedTo r j)
   unfolding drawingOf
@@ -101,7 +110,7 @@ module _ (r : Report) (h : InRange r) (j : ℕ) (k : j < r .v) where
   column-drawn : columnAt (drawingOf r) code ≡ columnOf (plan r) (layerAt (plan r) j)
   unfolding columnAt columnOf
   column-drawn =
-      let few : placeAt r j < 4 = omega (arith, place-within r h j k, offsets-few r) in
+      let few : placeAt r j < 4 = omega (arith, place-within r h j k, moves-few r) in
       rw (layer-is r h j k)
       (ap (column _) (ap (beamAt (drawingOf r)) code-place ∙ beam-is r h (placeAt r j) few)
       ∙ column-same _ (addedTo r j) _ code-added)

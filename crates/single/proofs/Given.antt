@@ -89,7 +89,7 @@ module _ (r : Report) {b : Beams} (h : InRange r) (e : b ≡ said r 0) where
 
   module _ (i : ℕ) (few : i < 4) where
     -- small enough for the code's arithmetic
-    pub small : (getD (b .l) i 0 ≤ 255) × (getD (b .m) i 0 ≤ 255) × (turn / b .across ≤ 255) × (turn / b .down ≤ 255)
+    pub small : (getD (b .l) i 0 ≤ 255) × (getD (b .m) i 0 ≤ 255) × (turn / b .across ≤ 511) × (turn / b .down ≤ 511)
     small =
         let k = known (r .n1) (r .n2) (h .setting) in
         let w = beams-within r (h .setting) i in
@@ -108,7 +108,7 @@ module _ (r : Report) {b : Beams} (h : InRange r) (e : b ≡ said r 0) where
           rw (e, h .setting, four-at (λ x. x .m) (beams r) i few) (w .m),
         )
 
-    pub step-is : {s : ℕ} → s ≡ getD (b .l) i 0 * (turn / b .across) + 256 * (getD (b .m) i 0 * (turn / b .down))
+    pub step-is : {s : ℕ} → s ≡ getD (b .l) i 0 * (turn / b .across) + 512 * (getD (b .m) i 0 * (turn / b .down))
         → s ≡ stepOf r (at r i)
     step-is p = p ∙ rw (e, h .setting, four-at (λ x. x .l) (beams r) i few, four-at (λ x. x .m) (beams r) i few)
 

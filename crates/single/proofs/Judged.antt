@@ -25,21 +25,21 @@ use Rattle.single.proofs.Lawful.{single-lawful}
 use Rattle.single.proofs.Given.{in-range-said, ports-are}
 
 -- by the number k that the shared refusals give of what is handed over
-module _ (r : Report) (mask : List ℕ) (ranks room : ℕ) {x : Needs} (a : Asks single r indices x)
-    {k : ℕ} (given : k ≡ admitted x mask ranks room) where
+module _ (r : Report) (mask : List ℕ) (ranks : ℕ) (offsets : List ℕ) (room : ℕ) {x : Needs} (a : Asks single r indices x)
+    {k : ℕ} (given : k ≡ admitted x mask ranks offsets room) where
   abbrev Is : Judged → Type 0
-  Is c = c ≡ judgedBy (planned (plan r)) (drawingOf r) (refusal single (asked r mask ranks room))
+  Is c = c ≡ judgedBy (planned (plan r)) (drawingOf r) (refusal single (asked r mask ranks offsets room))
 
   -- it is the codebook's refusal
-  number : k ≡ refusal single (asked r mask ranks room)
-  number = given ∙ admitted-refusal single r mask ranks room indices x a
+  number : k ≡ refusal single (asked r mask ranks offsets room)
+  number = given ∙ admitted-refusal single r mask ranks offsets room indices x a
 
   pub judged-refused : {c : Judged} → k ≢ 0 → c ≡ refusedBy k → Is c
   judged-refused h e = e ∙ refused-judged _ _ k _ h number
 
   -- where it is 0 the report is in range
   pub judged-in-range : k ≡ 0 → InRange r
-  judged-in-range z = accepted-in-range single single-lawful r mask ranks room (sym number ∙ z)
+  judged-in-range z = accepted-in-range single single-lawful r mask ranks offsets room (sym number ∙ z)
 
   pub judged-accepted : {b : Beams} {l : Lineup} {s : Drawing} {c : Judged} → k ≡ 0 → b ≡ beamsOf r → l ≡ lineupOf r
       → s ≡ drawingOf r → c ≡ acceptedAs (b .ports) (r .v) (x .entries) (l .beams) s → Is c

@@ -22,7 +22,7 @@ use Rattle.report.specs.declared.Report.{Report}
 use Rattle.report.specs.Rules.{InRange}
 use Rattle.report.specs.Beams.{isHalf, beams}
 use Rattle.report.proofs.InRange.{in-range, in-range-none, two-ports-i2}
-use Rattle.report.proofs.Offsets.{length-beams}
+use Rattle.report.proofs.Moves.{length-beams}
 use Rattle.report.proofs.Reached.{Reached}
 use Rattle.plan.specs.Plan.{beamsAcross, layerAt}
 use Rattle.plan.specs.Masks.{threeBits}
@@ -88,7 +88,7 @@ pub single-lawful : Lawful single InRange
 unfolding among numbered part
 single-lawful = record {
   order-numbered = tt;
-  last-two = (tt, tt);
+  last-three = (tt, tt, tt);
   in-range = λ r. (in-range r, in-range-none r);
   sound = plan-sound;
   within = within;

@@ -18,9 +18,9 @@ use Rattle.settings.specs.Ranges.{beam, halfLength}
 use Rattle.settings.proofs.Known.{at-setting}
 use Rattle.report.specs.declared.Report.{Report}
 use Rattle.report.specs.Rules.{InRange}
-use Rattle.report.specs.Beams.{isHalf, offsets, beams}
+use Rattle.report.specs.Beams.{isHalf, moves, beams}
 use Rattle.report.proofs.InRange.{v-some, v-few}
-use Rattle.report.proofs.Offsets.{counted, offsets-some, length-offsets}
+use Rattle.report.proofs.Moves.{counted, moves-some, length-moves}
 use Rattle.plan.specs.Plan.{layerAt}
 use Rattle.single.specs.Columns.{B, f, Bracket, _⨾_, byRank, place, phaseOf, quarters}
 use Rattle.single.specs.Plan.{fOf, tOf, withBeam, whole, quartered, layers, plan}
@@ -102,8 +102,8 @@ module _ (r : Report) (h : InRange r) where
         (λ e. let long = length-rank in rw e (map-at (whole r) (brackets (r .v)) j (B ⨾ f) _ (omega arith)))
 
     -- its beam is one of the report's
-    pub place-within : placeAt r j < length (offsets r)
+    pub place-within : placeAt r j < length (moves r)
     unfolding every byRank
     place-within =
         let test = at-rank (λ v j. ltb (place (bracket v j .beam)) (counted v (eqb v 1 || false))) tt j k in
-        either (isHalf r) (λ e. rw e (offsets-some r)) (λ e. rw (length-offsets r, e) (ltb→lt _ _ test))
+        either (isHalf r) (λ e. rw e (moves-some r)) (λ e. rw (length-moves r, e) (ltb→lt _ _ test))

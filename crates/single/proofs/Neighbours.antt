@@ -20,7 +20,7 @@ use Rattle.settings.proofs.Ranked.{i12-few}
 use Rattle.report.specs.declared.Report.{Report}
 use Rattle.report.specs.Rules.{InRange}
 use Rattle.report.specs.Beams.{isHalf, base, moved, beams}
-use Rattle.report.proofs.Offsets.{offsets-few-layers}
+use Rattle.report.proofs.Moves.{moves-few-layers}
 use Rattle.report.proofs.Reached.{Reached, beams-within}
 use Rattle.plan.specs.Masks.{threeBits}
 use Rattle.single.specs.Masks.{beamBit, neighbours, beamsRead, bitsRead}
@@ -109,7 +109,7 @@ module _ (r : Report) (h : InRange r) (half : isHalf r ≡ true) where
   pub half-beam : beams r ≡ beam (2 * r .i11) (r .i12) ∷ []
   unfolding beams moved base
   half-beam =
-      rw (offsets-few-layers r (halved r half .0), half, or-true)
+      rw (moves-few-layers r (halved r half .0), half, or-true)
       (ap₂ {C = List Beam} (λ (l m : ℕ). beam l m ∷ [])
       (stays (2 * r .i11) (o1 (r .n1)) w (omega (arith, above-within))) (stays (r .i12) (o2 (r .n2)) d column-within))
 

@@ -1,16 +1,16 @@
 -- The plan of a report in range is sound.
 use mathlib.Core.Path.{_≡_, refl, sym, ap, _∙_}
-use mathlib.Core.Bool.{Bool, true, _&&_, _||_}
+use mathlib.Core.Bool.{true, _&&_}
 use mathlib.Core.List.{[], _∷_}
 use Prim.Native.Nat.{ℕ, zero, suc, _*_, _/_, _%_, _<_, _≤_}
 use native.Mathlib.Nat.{mul-assoc}
 use native.Mathlib.Omega.{arith}
-use lib.Dec.{eqb, ltb, eqb→eq, ltb→lt}
+use lib.Dec.{eqb, eqb→eq}
 use lib.ListN.{length, getD}
 use Rattle.ground.specs.Lists.{each, every, all-nil, all-cons}
 use Rattle.ground.proofs.Booleans.{either, cond-both}
-use Rattle.ground.proofs.Tests.{or-else, every-at, two-eq}
-use Rattle.turn.specs.Phase.{turn, eighth, thirtySecond}
+use Rattle.ground.proofs.Tests.{every-at, two-eq}
+use Rattle.turn.specs.Phase.{turn, eighth}
 use Rattle.turn.specs.Cancel.{Multiples}
 use Rattle.settings.specs.Settings.{settings, isSetting, ports, o1, across, down}
 use Rattle.settings.proofs.Known.{known, at-setting, ports-few}
@@ -35,15 +35,12 @@ whole-steps n1 n2 e =
     two-eq (across n1 * (turn / across n1)) turn (down n2 * (turn / down n2)) turn
     (at-setting n1 n2 (λ a b. eqb (across a * (turn / across a)) turn && eqb (down b * (turn / down b)) turn) tt e)
 
--- where P divides 16, the steps are whole 32nds of a turn
-coarse-steps : (n1 n2 : ℕ) → isSetting n1 n2 ≡ true → 16 % ports n1 n2 ≡ 0
-    → (turn / across n1 % thirtySecond ≡ 0) × (turn / down n2 % thirtySecond ≡ 0)
+-- and a step is an even number of parts
+even-steps : (n1 n2 : ℕ) → isSetting n1 n2 ≡ true → (turn / across n1 % 2 ≡ 0) × (turn / down n2 % 2 ≡ 0)
 unfolding settings each
-coarse-steps n1 n2 e h =
-    let coarse : ℕ → ℕ → Bool = λ a b. eqb (turn / across a % thirtySecond) 0 && eqb (turn / down b % thirtySecond) 0 in
-    two-eq (turn / across n1 % thirtySecond) 0 (turn / down n2 % thirtySecond) 0
-    (or-else (ltb 0 (16 % ports n1 n2)) (coarse n1 n2) (λ t. omega (arith, ltb→lt 0 (16 % ports n1 n2) t))
-    (at-setting n1 n2 (λ a b. ltb 0 (16 % ports a b) || coarse a b) tt e))
+even-steps n1 n2 e =
+    two-eq (turn / across n1 % 2) 0 (turn / down n2 % 2) 0
+    (at-setting n1 n2 (λ a b. eqb (turn / across a % 2) 0 && eqb (turn / down b % 2) 0) tt e)
 
 -- f and t are whole eighths of a turn, and so is what is added to the quarters
 four-multiples : (a b c : ℕ) → a % eighth ≡ 0 → b % eighth ≡ 0 → c % eighth ≡ 0 → Multiples eighth (0 ∷ a ∷ b ∷ c ∷ [])
@@ -113,6 +110,6 @@ module _ (r : Report) (h : InRange r) where
         reduced-m = λ j hj. reached j hj .1;
         long = long;
         eighths = eighths;
-        coarse = λ d. rw same-beams (coarse-steps (r .n1) (r .n2) (h .setting) d);
+        even-steps = rw same-beams (even-steps (r .n1) (r .n2) (h .setting));
         told = told r h;
       }

@@ -23,7 +23,7 @@ use Rattle.settings.specs.Ranges.{beam}
 use Rattle.settings.proofs.Known.{at-setting}
 use Rattle.report.specs.declared.Report.{Report}
 use Rattle.report.specs.Rules.{InRange}
-use Rattle.report.specs.Beams.{isHalf, base, offsets, moved, beams}
+use Rattle.report.specs.Beams.{isHalf, base, moves, moved, beams}
 use Rattle.plan.specs.Plan.{layerAt}
 use Rattle.plan.specs.Sound.{StepsFrom, Told, by-co-phases, by-beams}
 use Rattle.plan.proofs.Told.{two-beams}
@@ -86,12 +86,12 @@ abbrev setting : Report → Setting
 setting r = record { n1 = r .n1; n2 = r .n2; o1 = o1 (r .n1); o2 = o2 (r .n2) }
 
 -- a layer with the beam at a place stands k steps from B
-whole-moved : (r : Report) (at : ℕ) (co : List ℕ) → at < length (offsets r) → let k = getD (offsets r) at (beam 0 0) in
+whole-moved : (r : Report) (at : ℕ) (co : List ℕ) → at < length (moves r) → let k = getD (moves r) at (beam 0 0) in
     StepsFrom (setting r) (base r .l) (base r .m) (k .l) (k .m) (withBeam (getD (beams r) at (beam 0 0)) co)
 unfolding beams moved
 whole-moved r at co h =
-    let k = getD (offsets r) at (beam 0 0) in
-    let e = map-at (moved r (base r)) (offsets r) at (beam 0 0) (beam 0 0) h in
+    let k = getD (moves r) at (beam 0 0) in
+    let e = map-at (moved r (base r)) (moves r) at (beam 0 0) (beam 0 0) h in
     record { across = rw (e, mul-comm (o1 (r .n1)) (k .l)); down = rw (e, mul-comm (o2 (r .n2)) (k .m)) }
 
 -- ---- any two layers
@@ -109,8 +109,8 @@ module _ (r : Report) (h : InRange r) (j k : ℕ) (hj : j < r .v) (hk : k < r .v
   whole-told e =
       let x = bracket (r .v) j in
       let y = bracket (r .v) k in
-      let a = getD (offsets r) (place (x .beam)) (beam 0 0) in
-      let b = getD (offsets r) (place (y .beam)) (beam 0 0) in
+      let a = getD (moves r) (place (x .beam)) (beam 0 0) in
+      let b = getD (moves r) (place (y .beam)) (beam 0 0) in
       let same-f = Bool·beq (takesF (x .added)) (takesF (y .added)) in
       let even = halfAgree (second (x .added)) (second (y .added)) in
       elim (or-cases (same-f && even) (distinct (r .n1) (r .n2) a b) (layers-apart r h e j k hj hk ne)) [

@@ -20,8 +20,8 @@ ownBits r = twoPorts (r .n1) ⇒ twoPortBit r ∷ [] ∣ map (beamBit (r .n2)) (
 abbrev pub before : Codebook Report
 before = reading ownBits
 
--- the refusal of a report is another than it was: it is 10, it was none or 11, and the beams have half their length
+-- the refusal of a report is another than it was: it is 10, it was none, 13 or 11, and the beams have half their length
 pub record BarredSince (r : Report) (number numberBefore : ℕ) : Type 0 where
   pub ten : number ≡ 10
-  pub none-or-eleven : T (among numberBefore (0 ∷ 11 ∷ []))
+  pub none-or-later : T (among numberBefore (0 ∷ 13 ∷ 11 ∷ []))
   pub half-length : isHalf r ≡ true

@@ -44,9 +44,9 @@ coPhases r =
     isHalf r ⇒ 0 ∷ phase (tOf r) ∷ phase (fOf r) ∷ phase (phase (fOf r) + phase (tOf r)) ∷ 0 ∷ 0 ∷ 0 ∷ 0 ∷ []
     ∣ 0 ∷ phase (fOf r) ∷ 0 ∷ 0 ∷ 0 ∷ 0 ∷ 0 ∷ 0 ∷ []
 
--- the steps of a beam in parts of a turn, x + 256·y
+-- the steps of a beam in parts of a turn, x + 512·y
 abbrev pub stepOf : Report → Beam → ℕ
-stepOf r x = x .l * (turn / across (r .n1)) + 256 * (x .m * (turn / down (r .n2)))
+stepOf r x = x .l * (turn / across (r .n1)) + 512 * (x .m * (turn / down (r .n2)))
 
 unfoldable pub drawingOf : Report → Drawing
 drawingOf r = record {

@@ -12,7 +12,7 @@ use Rattle.single.specs.Masks.{bitsRead}
 
 -- the order in which the refusals are tried
 abbrev pub order : List ℕ
-order = 1 ∷ 2 ∷ 3 ∷ 4 ∷ 5 ∷ 6 ∷ 7 ∷ 8 ∷ 9 ∷ 10 ∷ 11 ∷ []
+order = 1 ∷ 2 ∷ 3 ∷ 4 ∷ 5 ∷ 6 ∷ 7 ∷ 8 ∷ 9 ∷ 10 ∷ 13 ∷ 11 ∷ []
 
 -- those of the indices
 abbrev pub indices : List ℕ

@@ -6,6 +6,7 @@ use plan::Lineup;
 use report::Beams;
 use report::Report;
 use turn::Beam;
+use turn::Part;
 use turn::Phase;
 ghost use mathlib.Core.Path.{_≡_};
 ghost use mathlib.Core.Bool.{true};
@@ -92,6 +93,7 @@ fn needs_of(r: Report, b: Beams) -> Needs
         refusal: 0,
         bytes: b.bytes,
         v: r.v,
+        ports: b.ports,
         entries: entries,
         count: 3,
         width: b.down,
@@ -101,12 +103,12 @@ fn needs_of(r: Report, b: Beams) -> Needs
 }
 
 // Judges such a report.
-pub fn judge(r: Report, b: Beams, mask: &[u8], ranks: u8, room: usize) -> Judged
+pub fn judge(r: Report, b: Beams, mask: &[u8], ranks: u8, offsets: &[Part], room: usize) -> Judged
     requires { ⌜ (b ≡ beamsOf r) × (b .half ≡ true) ⌝ }
-    ensures { λ c. ⌜ c ≡ judgedBy (planned (plan r)) (drawingOf r) (refusal single (asked r (now (mask .entry)) ranks room)) ⌝ }
+    ensures { λ c. ⌜ c ≡ judgedBy (planned (plan r)) (drawingOf r) (refusal single (asked r (now (mask .entry)) ranks (now (offsets .entry)) room)) ⌝ }
 {
     let x = needs_of(r, b);
-    let k = masks::admit_three(x, mask, ranks, room);
+    let k = masks::admit_three(x, mask, ranks, offsets, room);
     if k != 0 {
         return plan::refuse(k);
     }

@@ -7,6 +7,7 @@ use plan::Record;
 use report::Beams;
 use report::Report;
 use turn::Beam;
+use turn::Part;
 use turn::Phase;
 ghost use mathlib.Core.Path.{_≡_};
 ghost use mathlib.Core.Bool.{false};
@@ -102,12 +103,12 @@ fn layers_of(r: Report, s: Beams) -> Lineup
     }
 }
 
-// The steps of the beam (l,m), x + 256·y, where (1,0) has the step px and (0,1) the step py.
+// The steps of the beam (l,m), x + 512·y, where (1,0) has the step px and (0,1) the step py.
 fn step_of(l: u32, m: u32, px: u32, py: u32) -> u32
-    requires { ⌜ (l ≤ 255) × (m ≤ 255) × (px ≤ 255) × (py ≤ 255) ⌝ }
-    ensures { λ s. ⌜ s ≡ l * px + 256 * (m * py) ⌝ }
+    requires { ⌜ (l ≤ 255) × (m ≤ 255) × (px ≤ 511) × (py ≤ 511) ⌝ }
+    ensures { λ s. ⌜ s ≡ l * px + 512 * (m * py) ⌝ }
 {
-    l * px + 256 * (m * py)
+    l * px + 512 * (m * py)
 }
 
 // The steps of the beams. Many reports have one beam.
@@ -166,6 +167,7 @@ fn needs_of(r: Report, b: Beams) -> Needs
             refusal: b.refusal,
             bytes: b.bytes,
             v: r.v,
+            ports: 0,
             entries: 0,
             count: 0,
             width: 0,
@@ -173,13 +175,15 @@ fn needs_of(r: Report, b: Beams) -> Needs
             m: [0; 4],
         };
     }
-    let entries = r.v * b.ports;
+    let ports = b.ports;
+    let entries = r.v * ports;
     if r.n1 == 1 {
         let bit = two_port_bit(r);
         return Needs {
             refusal: 0,
             bytes: b.bytes,
             v: r.v,
+            ports: ports,
             entries: entries,
             count: 1,
             width: 0,
@@ -193,6 +197,7 @@ fn needs_of(r: Report, b: Beams) -> Needs
         refusal: 0,
         bytes: b.bytes,
         v: r.v,
+        ports: ports,
         entries: entries,
         count: b.count,
         width: b.down,
@@ -217,17 +222,17 @@ fn accepted(r: Report, b: Beams, entries: u32, beams: [Beam; 8], drawing: Drawin
     }
 }
 
-// Judges a report by the refusals 1 to 11: the first that applies is given, and otherwise what is to be written. `room` is the
-// number of entries for which the lent buffer has room.
-pub fn judge(r: Report, mask: &[u8], ranks: u8, room: usize) -> Judged
-    ensures { λ c. ⌜ c ≡ judgedBy (planned (plan r)) (drawingOf r) (refusal single (asked r (now (mask .entry)) ranks room)) ⌝ }
+// Judges a report by the refusals 1 to 11 and 13: the first that applies is given, and otherwise what is to be written.
+// `room` is the number of entries for which the lent buffer has room.
+pub fn judge(r: Report, mask: &[u8], ranks: u8, offsets: &[Part], room: usize) -> Judged
+    ensures { λ c. ⌜ c ≡ judgedBy (planned (plan r)) (drawingOf r) (refusal single (asked r (now (mask .entry)) ranks (now (offsets .entry)) room)) ⌝ }
 {
     let b = report::beams_of(r);
     if b.half {
-        return half::judge(r, b, mask, ranks, room);
+        return half::judge(r, b, mask, ranks, offsets, room);
     }
     let x = needs_of(r, b);
-    let k = masks::admit(x, mask, ranks, room);
+    let k = masks::admit(x, mask, ranks, offsets, room);
     if k != 0 {
         return plan::refuse(k);
     }

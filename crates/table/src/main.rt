@@ -1,7 +1,6 @@
 // Prints the table of weights, one line for each phase: the phase, x and y.
 use libc::STDOUT_FILENO;
-use turn::Phase;
-use weight::Weight;
+use turn::Part;
 ghost use mathlib.Core.Path.{_≡_};
 ghost use lib.IntN.{natAbs};
 
@@ -23,8 +22,8 @@ fn print_signed(n: i16) {
     io::print_decimal(STDOUT_FILENO, size(n));
 }
 
-fn print_line(e: u32) {
-    let w = Weight::of(Phase::of(e));
+fn print_line(e: Part) {
+    let w = lookup::weight_at(e);
     io::print_decimal(STDOUT_FILENO, e as u64);
     io::write_all(STDOUT_FILENO, b" ");
     print_signed(w.x);
@@ -34,7 +33,7 @@ fn print_line(e: u32) {
 }
 
 fn main() {
-    for e in 0..turn::TURN as u32 {
+    for e in 0..turn::TURN {
         print_line(e);
     }
 }

@@ -6,6 +6,7 @@ use Prim.Native.Nat.{ℕ, zero, suc, _+_, _*_, _≤_}
 use lib.Dec.{eqb, leb}
 use lib.ListN.{length, take, drop}
 use Rattle.ground.specs.Cases.{_⇒_∣_}
+use Rattle.ground.specs.Lists.{each}
 use Rattle.plan.specs.declared.Record.{Record}
 use Rattle.plan.specs.Plan.{layerIn}
 use Rattle.text.specs.Words.{lineOf, headed}
@@ -33,11 +34,16 @@ recordText a phases =
     eqb (a .refusal) 0 ⇒ okText a ++ linesOf (a .layers) (a .ports) phases
     ∣ refusedText (a .refusal)
 
--- a record with the numbers of an answer: three digits, 8 layers of 32 ports at most, and so many phases for them
-unfoldable pub printable : Record → ℕ → Bool
+-- no number has more than three digits
+unfoldable pub threeDigits : List ℕ → Bool
+threeDigits xs = each (λ x. leb x 999) xs
+
+-- a record with the numbers of an answer: three digits, 8 layers of 32 ports at most, and phases of three digits for them
+unfoldable pub printable : Record → List ℕ → Bool
 printable a phases =
     leb (a .refusal) 999 && leb (a .ports) 32 && leb (a .layers) 8 && leb (a .scale) 999
-    && leb (a .layers * a .ports) phases
+    && leb (a .layers * a .ports) (length phases)
+    && threeDigits (take (a .layers * a .ports) phases)
 
 -- no text is longer: `ok 32 8 256`, and 8 lines of 32 phases of three digits
 abbrev pub longest : ℕ

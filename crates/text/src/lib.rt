@@ -7,7 +7,7 @@ ghost use Prim.Native.Nat.{_≤_};
 ghost use lib.Dec.{leb};
 ghost use lib.ListN.{length, take};
 ghost use Rattle.text.specs.Words.{ending, ended};
-ghost use Rattle.text.specs.Text.{longest, recordText, unreadableText, printable, Writes, Adds};
+ghost use Rattle.text.specs.Text.{longest, recordText, unreadableText, threeDigits, printable, Writes, Adds};
 
 mod write;
 
@@ -46,9 +46,24 @@ pub fn number(n: u64, left: usize, out: &mut [u8]) -> usize
     put(&text, k, out)
 }
 
-// Whether a record has the numbers of an answer, and there are phases for it.
-fn is_printable(a: Record, phases: usize) -> bool
-    ensures { λ t. ⌜ t ≡ printable a phases ⌝ }
+// Whether the first n phases have three digits at most.
+fn are_short(phases: &[Part], n: usize) -> bool
+    requires { ⌜ n ≤ length (now phases) ⌝ }
+    ensures { λ t. ⌜ t ≡ threeDigits (take n (now (phases .entry))) ⌝ }
+{
+    let mut i = 0;
+    while i < n {
+        if 999 < phases[i] {
+            return false;
+        }
+        i += 1;
+    }
+    true
+}
+
+// Whether a record has the numbers of an answer, and there are phases of three digits at most for it.
+fn is_printable(a: Record, phases: &[Part]) -> bool
+    ensures { λ t. ⌜ t ≡ printable a (now (phases .entry)) ⌝ }
 {
     if 999 < a.refusal {
         return false;
@@ -62,12 +77,16 @@ fn is_printable(a: Record, phases: usize) -> bool
     if 999 < a.scale {
         return false;
     }
-    (a.layers * a.ports) as usize <= phases
+    let n = (a.layers * a.ports) as usize;
+    if phases.len() < n {
+        return false;
+    }
+    are_short(phases, n)
 }
 
 // The text of a record, at the front of a buffer that has room for any.
 fn compose(a: Record, phases: &[Part], out: &mut [u8]) -> usize
-    requires { ⌜ (printable a (length (now phases)) ≡ true) × (longest ≤ length (now out)) ⌝ }
+    requires { ⌜ (printable a (now phases) ≡ true) × (longest ≤ length (now out)) ⌝ }
     ensures { λ k. ⌜ Adds (recordText a (now (phases .entry))) 0 (now (out .entry)) k (now (out .exit)) ⌝ }
 {
     let number = a.refusal;
@@ -80,15 +99,15 @@ fn compose(a: Record, phases: &[Part], out: &mut [u8]) -> usize
 
 // Writes the text of a record and its phases: `ok`, P, v and the scale, and then a line of phases for each layer; or
 // `refused` and the number. Each line ends with a newline. The text stands at the front of the lent buffer, bytes after it
-// stay, and the number of its bytes is given. Where the text has more bytes than are lent, where a number is larger than
-// any answer's, or where there are fewer phases than v·P, 0 is given and every byte stays. The record 0, 4, 2, 8 with the
-// phases 0 168 0 168 0 72 96 168 gives `ok 4 2 8`, `0 168 0 168` and `0 72 96 168`.
+// stay, and the number of its bytes is given. Where the text has more bytes than are lent, where P is above 32, v above 8 or
+// another number above 999, or where there are fewer phases than v·P, 0 is given and every byte stays. The record 0, 4, 2, 8
+// with the phases 0 336 0 336 0 144 192 336 gives `ok 4 2 8`, `0 336 0 336` and `0 144 192 336`.
 pub fn answer(a: Record, phases: &[Part], out: &mut [u8]) -> usize
     ensures { λ k.
-        ⌜ Writes (printable a (length (now (phases .entry)))) (recordText a (now (phases .entry))) (now (out .entry)) k
+        ⌜ Writes (printable a (now (phases .entry))) (recordText a (now (phases .entry))) (now (out .entry)) k
         (now (out .exit)) ⌝ }
 {
-    if !is_printable(a, phases.len()) {
+    if !is_printable(a, phases) {
         return 0;
     }
     let mut text = [0; LONGEST_TEXT];

@@ -1,11 +1,13 @@
 // Writers: each puts its text from a place of a lent buffer on, and gives the place after it.
 use plan::Record;
 use turn::Part;
+ghost use mathlib.Core.Path.{_≡_};
+ghost use mathlib.Core.Bool.{true};
 ghost use mathlib.Core.List.{_++_};
 ghost use Prim.Native.Nat.{_+_, _*_, _≤_};
-ghost use lib.ListN.{length};
+ghost use lib.ListN.{length, take};
 ghost use Rattle.text.specs.Words.{decimal, ended};
-ghost use Rattle.text.specs.Text.{linesOf, okText, Adds};
+ghost use Rattle.text.specs.Text.{linesOf, okText, threeDigits, Adds};
 
 // A number in decimals: its last digit after those of a tenth of it.
 fn decimal(n: u64, at: usize, out: &mut [u8]) -> usize
@@ -31,9 +33,10 @@ pub fn ended(n: u64, left: usize, at: usize, out: &mut [u8]) -> usize
     k + 1
 }
 
-// A line for each of v layers of p phases.
+// A line for each of v layers of p phases, of three digits at most.
 pub fn lines(phases: &[Part], p: usize, v: usize, at: usize, out: &mut [u8]) -> usize
-    requires { ⌜ (v * p ≤ length (now phases)) × (at + 4 * (v * p) ≤ length (now out)) ⌝ }
+    requires { ⌜ (v * p ≤ length (now phases)) × (threeDigits (take (v * p) (now phases)) ≡ true)
+        × (at + 4 * (v * p) ≤ length (now out)) ⌝ }
     ensures { λ k. ⌜ Adds (linesOf v p (now (phases .entry))) at (now (out .entry)) k (now (out .exit)) ⌝ }
 {
     let n = v * p;

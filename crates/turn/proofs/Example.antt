@@ -28,13 +28,13 @@ layer2 = column (0 ∷ 0 ∷ []) (beam setting 8 0)
 unfoldable pub between : List ℕ
 between = differences layer1 layer2
 
--- 0 0 128 128 64 64, twice
+-- two phases of 0, two of two thirds of a turn, two of a third; twice
 pub layer2-is : layer2
     ≡ 0 ∷ 0 ∷ 2 * third ∷ 2 * third ∷ third ∷ third ∷ 0 ∷ 0 ∷ 2 * third ∷ 2 * third ∷ third ∷ third ∷ []
 unfolding layer2 setting column beam grid step steps product
 layer2-is = refl
 
--- the differences are 0, 64 and 128, four ports each
+-- the differences are 0, a third and two thirds of a turn, four ports each
 pub counts : (count between 0 ≡ 4) × (count between third ≡ 4) × (count between (2 * third) ≡ 4)
 unfolding between layer1 layer2 setting column beam grid step steps product differences difference count
 counts = (refl, refl, refl)

@@ -3,7 +3,7 @@ use Prim.Native.Nat.{ℕ, _+_, _-_, _/_, _%_}
 
 -- the parts of a full turn: three times a power of two
 abbrev pub turn : ℕ
-turn = 192
+turn = 384
 
 abbrev pub half : ℕ
 half = turn / 2
@@ -22,9 +22,6 @@ eighth = turn / 8
 
 abbrev pub twelfth : ℕ
 twelfth = turn / 12
-
-abbrev pub thirtySecond : ℕ
-thirtySecond = turn / 32
 
 -- a whole number of parts as a phase: reduced modulo a turn
 abbrev pub phase : ℕ → ℕ

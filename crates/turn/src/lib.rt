@@ -4,10 +4,10 @@ ghost use Prim.Native.Nat.{_+_, _*_};
 ghost use Rattle.turn.specs.Phase.{quarter, eighth, phase};
 
 // A number of parts of a turn. Another resolution may need more bits, and nothing else here.
-pub type Part = u8;
+pub type Part = u16;
 
 // The parts of a full turn.
-pub const TURN: Part = 192;
+pub const TURN: Part = 384;
 
 // The phase of a number of parts.
 fn reduced(x: Part) -> Part
@@ -29,12 +29,12 @@ pub struct Phase {
 }
 
 impl Phase {
-    // Of 192 parts, a quarter has 48 and an eighth 24.
+    // Of 384 parts, a quarter has 96 and an eighth 48.
     pub const QUARTER: Phase = Phase { parts: TURN / 4 };
 
     pub const EIGHTH: Phase = Phase { parts: TURN / 8 };
 
-    // A whole number of parts as a phase: `Phase::of(200)` has 8 parts.
+    // A whole number of parts as a phase: `Phase::of(400)` has 16 parts.
     pub fn of(number: u32) -> Phase
         ensures { λ r. ⌜ r .parts ≡ phase number ⌝ }
     {

@@ -1,5 +1,4 @@
 -- The laws of the table; `CrossSum`, `Powers` and the last part of `Rules` are what other crates come for.
-pub mod Unique
 pub mod Pairs
 pub mod Integers
 pub mod Rules

@@ -1,17 +1,16 @@
 -- Weights as they are stored: where the numbers of each stand, and what is read back.
 use mathlib.Core.Path.{_≡_, refl, ap, _∙_}
-use mathlib.Core.List.{List, [], _∷_, _++_, map, zipWith}
-use Prim.Native.Nat.{ℕ, zero, suc, _+_, _*_, _/_, _<_}
+use mathlib.Core.List.{List, [], _∷_, _++_, map}
+use Prim.Native.Nat.{ℕ, zero, suc, _+_, _*_, _<_}
 use native.Mathlib.Omega.{arith}
-use lib.IntN.{ℤ, pos}
-use lib.ListN.{length, getD, length-map}
+use lib.IntN.{ℤ}
+use lib.ListN.{length, getD}
 use Rattle.ground.proofs.Lists.{map-at}
-use Rattle.turn.specs.Phase.{turn}
 use Rattle.turn.specs.Column.{steps}
 use Rattle.turn.proofs.Lists.{length-steps}
 use Rattle.turn.proofs.Entries.{steps-entry}
 use Rattle.weight.specs.declared.Weight.{Weight}
-use Rattle.weight.specs.Table.{firstQuarter, firstHalf, xs, ys, table, noWeight, weight, sampled, numbers, pairs}
+use Rattle.weight.specs.Table.{noWeight, numbers, pairs}
 
 pub one-weight : {v w : Weight} → v .x ≡ w .x → v .y ≡ w .y → v ≡ w
 one-weight p q = λ i. record { x = p i; y = q i }
@@ -40,25 +39,7 @@ unfolding numbers pairs
 pairs-numbers [] ns = refl
 pairs-numbers (w ∷ ws) ns = ap {B = List Weight} (λ (vs : List Weight). w ∷ vs) (pairs-numbers ws ns)
 
--- ---- weights of phases some way apart
-
--- the table has those of all phases
-pub sampled-one : table ≡ sampled 1
-unfolding sampled steps weight table xs ys firstHalf firstQuarter zipWith
-sampled-one = refl
-
-pub length-sampled : (apart : ℕ) → length (numbers (sampled apart)) ≡ 2 * (turn / apart)
-unfolding sampled
-length-sampled apart = simp (length-numbers, length-map, length-steps)
+-- ---- a function of weights over whole steps
 
 pub map-steps-at : (f : ℕ → Weight) (n s k : ℕ) → k < n → getD (map f (steps n s)) k noWeight ≡ f (k * s)
 map-steps-at f n s k h = map-at f (steps n s) k 0 noWeight (rw length-steps h) ∙ ap f (steps-entry n s k h)
-
-pub sampled-x : (apart k : ℕ) → k < turn / apart → getD (numbers (sampled apart)) (2 * k) (pos 0) ≡ weight (k * apart) .x
-unfolding sampled
-sampled-x apart k h = numbers-x (sampled apart) noWeight k ∙ ap (λ (w : Weight). w .x) (map-steps-at weight _ apart k h)
-
-pub sampled-y : (apart k : ℕ) → k < turn / apart
-    → getD (numbers (sampled apart)) (2 * k + 1) (pos 0) ≡ weight (k * apart) .y
-unfolding sampled
-sampled-y apart k h = numbers-y (sampled apart) noWeight k ∙ ap (λ (w : Weight). w .y) (map-steps-at weight _ apart k h)

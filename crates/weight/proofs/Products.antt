@@ -94,6 +94,6 @@ pub product-within : (e g : ℕ) → Near limit (weight (difference e g)) (weigh
 product-within e g = let p = product-tight e g in record { x = omega arith; y = omega arith }
 
 -- the limit of `product-tight` occurs
-pub product-highest : off (im (weight 10) (weight 38)) (weight (difference 10 38) .y) ≡ productOff
+pub product-highest : off (im (weight 20) (weight 76)) (weight (difference 20 76) .y) ≡ productOff
 unfolding difference weight table zipWith xs ys firstHalf firstQuarter
 product-highest = refl

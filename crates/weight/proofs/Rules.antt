@@ -117,11 +117,11 @@ pub power-within : (e : ℕ) → Within fullPower limit limit (power (weight e))
 power-within e = let p = power-tight e in record { low = omega arith; high = omega arith }
 
 -- both ends occur
-pub power-lowest : power (weight 14) + powerBelow ≡ fullPower
+pub power-lowest : power (weight 28) + powerBelow ≡ fullPower
 unfolding weight table zipWith xs ys firstHalf firstQuarter
 power-lowest = refl
 
-pub power-highest : power (weight 9) ≡ fullPower + powerAbove
+pub power-highest : power (weight 18) ≡ fullPower + powerAbove
 unfolding weight table zipWith xs ys firstHalf firstQuarter
 power-highest = refl
 

@@ -1,10 +1,9 @@
 -- The table of weights: a pair of whole numbers for each phase, from the cosines of its first quarter.
 use mathlib.Core.List.{List, [], _∷_, _++_, map, reverse, zipWith}
-use Prim.Native.Nat.{ℕ, _-_, _/_}
+use Prim.Native.Nat.{ℕ, _-_}
 use lib.IntN.{ℤ, pos, negℤ}
 use lib.ListN.{getD, take, drop}
-use Rattle.turn.specs.Phase.{turn, quarter, thirtySecond, phase}
-use Rattle.turn.specs.Column.{steps}
+use Rattle.turn.specs.Phase.{turn, quarter, phase}
 use Rattle.weight.specs.declared.Weight.{Weight}
 
 -- the weight of phase 0, and the length that every weight is near
@@ -14,10 +13,14 @@ radius = 16384
 -- the whole numbers nearest to radius·cos of e/turn, for e from 0 to a quarter of a turn
 unfoldable pub firstQuarter : List ℕ
 firstQuarter =
-    16384 ∷ 16375 ∷ 16349 ∷ 16305 ∷ 16244 ∷ 16165 ∷ 16069 ∷ 15956 ∷ 15826 ∷ 15679 ∷ 15515 ∷ 15334
-    ∷ 15137 ∷ 14924 ∷ 14694 ∷ 14449 ∷ 14189 ∷ 13913 ∷ 13623 ∷ 13318 ∷ 12998 ∷ 12665 ∷ 12318 ∷ 11958
-    ∷ 11585 ∷ 11200 ∷ 10803 ∷ 10394 ∷ 9974 ∷ 9543 ∷ 9102 ∷ 8652 ∷ 8192 ∷ 7723 ∷ 7246 ∷ 6762
-    ∷ 6270 ∷ 5771 ∷ 5266 ∷ 4756 ∷ 4240 ∷ 3720 ∷ 3196 ∷ 2669 ∷ 2139 ∷ 1606 ∷ 1072 ∷ 536
+    16384 ∷ 16382 ∷ 16375 ∷ 16364 ∷ 16349 ∷ 16329 ∷ 16305 ∷ 16277 ∷ 16244 ∷ 16207 ∷ 16165 ∷ 16119
+    ∷ 16069 ∷ 16015 ∷ 15956 ∷ 15893 ∷ 15826 ∷ 15754 ∷ 15679 ∷ 15599 ∷ 15515 ∷ 15426 ∷ 15334 ∷ 15237
+    ∷ 15137 ∷ 15032 ∷ 14924 ∷ 14811 ∷ 14694 ∷ 14574 ∷ 14449 ∷ 14321 ∷ 14189 ∷ 14053 ∷ 13913 ∷ 13770
+    ∷ 13623 ∷ 13472 ∷ 13318 ∷ 13160 ∷ 12998 ∷ 12833 ∷ 12665 ∷ 12493 ∷ 12318 ∷ 12140 ∷ 11958 ∷ 11773
+    ∷ 11585 ∷ 11394 ∷ 11200 ∷ 11003 ∷ 10803 ∷ 10600 ∷ 10394 ∷ 10185 ∷ 9974 ∷ 9760 ∷ 9543 ∷ 9324
+    ∷ 9102 ∷ 8878 ∷ 8652 ∷ 8423 ∷ 8192 ∷ 7959 ∷ 7723 ∷ 7486 ∷ 7246 ∷ 7005 ∷ 6762 ∷ 6517
+    ∷ 6270 ∷ 6021 ∷ 5771 ∷ 5520 ∷ 5266 ∷ 5012 ∷ 4756 ∷ 4499 ∷ 4240 ∷ 3981 ∷ 3720 ∷ 3459
+    ∷ 3196 ∷ 2933 ∷ 2669 ∷ 2404 ∷ 2139 ∷ 1872 ∷ 1606 ∷ 1339 ∷ 1072 ∷ 804 ∷ 536 ∷ 268
     ∷ 0 ∷ []
 
 -- x over half a turn: past the quarter the same values come back, below zero
@@ -40,17 +43,13 @@ table = zipWith (λ (x y : ℤ). record { x = x; y = y }) xs ys
 abbrev pub noWeight : Weight
 noWeight = record { x = pos 0; y = pos 0 }
 
+-- the pair at a place of the table; past its end there is none
+abbrev pub entry : ℕ → Weight
+entry e = getD table e noWeight
+
 -- the weight of a phase
 unfoldable pub weight : ℕ → Weight
-weight e = getD table (phase e) noWeight
-
--- the weights of the phases 0, apart, 2·apart, .., below a turn
-unfoldable pub sampled : ℕ → List Weight
-sampled apart = map weight (steps (turn / apart) apart)
-
--- those at the whole 32nds of a turn
-abbrev pub coarse : List Weight
-coarse = sampled thirtySecond
+weight e = entry (phase e)
 
 -- weights as they are stored: x, then y, of each
 unfoldable pub numbers : List Weight → List ℤ

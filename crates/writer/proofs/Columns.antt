@@ -1,4 +1,4 @@
--- Columns, block by block: one block more, and the sixteen places in which a block is drawn.
+-- Columns with offsets, block by block: one block more, and the sixteen places in which a block is drawn.
 use mathlib.Core.Path.{_≡_, refl, sym, ap, _∙_}
 use mathlib.Core.List.{List, [], _∷_, _++_}
 use Prim.Native.Nat.{ℕ, zero, suc, _+_, _*_, _/_, _%_, _<_, _≤_}
@@ -12,7 +12,9 @@ use Rattle.turn.specs.Column.{grid, column}
 use Rattle.turn.proofs.Lists.{length-grid}
 use Rattle.turn.proofs.Columns.{length-column, column-append}
 use Rattle.turn.proofs.Entries.{grid-entry, column-entry}
+use Rattle.plan.specs.Offsets.{fed}
 use Rattle.plan.specs.Drawing.{coAt, coRow}
+use Rattle.plan.proofs.Fed.{length-fed, fed-take}
 use Rattle.writer.specs.Blocks.{placed}
 
 pub length-row : (co : List ℕ) (code n : ℕ) → length (coRow co code n) ≡ n
@@ -59,3 +61,11 @@ module _ (w x y c : ℕ) (some : 1 ≤ w) where
           → getD (take (rows * w) (placed w x y c)) i 0 ≡ getD (column (c ∷ []) (grid rows x w y)) i 0
       same i h =
           getD-take (rows * w) (placed w x y c) i 0 h ∙ placed-entry i (omega arith) ∙ sym (block-entry rows i h)
+
+  -- the places with offsets, and what is kept of them
+  pub length-fed-placed : (os : List ℕ) → length (fed os (placed w x y c)) ≡ 16
+  length-fed-placed os = length-fed os (placed w x y c) ∙ length-placed
+
+  pub block-fed : (os : List ℕ) (rows : ℕ) → rows * w ≤ 16
+      → take (rows * w) (fed os (placed w x y c)) ≡ fed os (column (c ∷ []) (grid rows x w y))
+  block-fed os rows few = fed-take (rows * w) os (placed w x y c) ∙ ap (fed os) (block-placed rows few)

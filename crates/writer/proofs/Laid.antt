@@ -14,9 +14,11 @@ use Rattle.turn.specs.Column.{grid, column}
 use Rattle.turn.proofs.Lists.{length-grid}
 use Rattle.turn.proofs.Columns.{length-column}
 use Rattle.plan.specs.declared.Drawing.{Drawing}
+use Rattle.plan.specs.Offsets.{fed}
 use Rattle.plan.specs.Drawing.{height, coAt, coRow, columnAt, drawn}
+use Rattle.plan.proofs.Fed.{length-fed, fed-append}
 use Rattle.writer.specs.Blocks.{placed, PutAt, Laid}
-use Rattle.writer.proofs.Columns.{length-row, column-next, length-placed, block-placed}
+use Rattle.writer.proofs.Columns.{length-row, column-next, length-fed-placed, block-fed}
 use Rattle.writer.proofs.Drawn.{drawn-next, length-drawn}
 
 -- nothing is put down yet
@@ -60,39 +62,56 @@ laid-put {left} lent block at h e long sixteen few room = record {
     kept : drop (at + 16) left ≡ drop (at + 16) lent
     kept = rw e (drop-at (take at lent ++ block) (drop (at + 16) lent) (at + 16) (rw length-append (omega (arith, here))))
 
--- one block more of a column, of which sixteen places are put down
-pub laid-block : {lent mid left block : List ℕ} {at to : ℕ} (co : List ℕ) (code q rows w x y : ℕ)
-    → Laid lent at (column (coRow co code q) (grid rows x w y)) to mid → block ≡ placed w x y (coAt co code q)
-    → PutAt mid to block left → length left ≡ length mid → 1 ≤ w → rows * w ≤ 16 → to + 16 ≤ length mid
-    → Laid lent at (column (coRow co code (q + 1)) (grid rows x w y)) (to + rows * w) left
-laid-block {lent} {mid} {left} {block} {at} {to} co code q rows w x y before drawn e long some few room =
-    subst (λ (xs : List ℕ). Laid lent at xs (to + rows * w) left) (sym (column-next co code q (grid rows x w y)))
-    (laid-append before (subst (λ (xs : List ℕ). Laid mid to xs (to + rows * w) left) same put))
-  where
-    c : ℕ
-    c = coAt co code q
+-- ---- a column with offsets
 
-    put : Laid mid to (take (rows * w) block) (to + rows * w) left
-    put = laid-put mid block to (rows * w) e long (ap length drawn ∙ length-placed w x y c some) few room
+module _ (os co : List ℕ) (code rows w x y : ℕ) where
+  -- its first q blocks
+  abbrev pub blocksOf : ℕ → List ℕ
+  blocksOf q = fed os (column (coRow co code q) (grid rows x w y))
 
-    same : take (rows * w) block ≡ column (c ∷ []) (grid rows x w y)
-    same = ap (take (rows * w)) drawn ∙ block-placed w x y c some rows few
+  length-blocks : (q : ℕ) → length (column (coRow co code q) (grid rows x w y)) ≡ q * (rows * w)
+  length-blocks q = length-column _ _ ∙ ap₂ _*_ (length-row co code q) (length-grid rows x w y)
 
--- the place after q blocks
-pub column-place : {lent mid : List ℕ} {at to : ℕ} (co : List ℕ) (code q rows w x y : ℕ)
-    → Laid lent at (column (coRow co code q) (grid rows x w y)) to mid → to ≡ at + q * (rows * w)
-column-place {at = at} co code q rows w x y p =
-    p .place ∙ ap (λ (n : ℕ). at + n) (length-column _ _ ∙ ap₂ _*_ (length-row co code q) (length-grid rows x w y))
+  -- one block more, of which sixteen places are put down, with the offsets from place p on
+  pub laid-block : {lent mid left block : List ℕ} {at to : ℕ} (q p : ℕ) → Laid lent at (blocksOf q) to mid
+      → p ≡ q * (rows * w) → block ≡ fed (drop p os) (placed w x y (coAt co code q))
+      → PutAt mid to block left → length left ≡ length mid → 1 ≤ w → rows * w ≤ 16 → to + 16 ≤ length mid
+      → Laid lent at (blocksOf (q + 1)) (to + rows * w) left
+  laid-block {lent} {mid} {left} {block} {at} {to} q p before here drawn e long some few room =
+      subst (λ (xs : List ℕ). Laid lent at xs (to + rows * w) left) (sym next)
+      (laid-append before (subst (λ (xs : List ℕ). Laid mid to xs (to + rows * w) left) same put))
+    where
+      c : ℕ
+      c = coAt co code q
+
+      put : Laid mid to (take (rows * w) block) (to + rows * w) left
+      put = laid-put mid block to (rows * w) e long (ap length drawn ∙ length-fed-placed w x y c some (drop p os)) few room
+
+      same : take (rows * w) block ≡ fed (drop p os) (column (c ∷ []) (grid rows x w y))
+      same = ap (take (rows * w)) drawn ∙ block-fed w x y c some (drop p os) rows few
+
+      next : blocksOf (q + 1) ≡ blocksOf q ++ fed (drop p os) (column (c ∷ []) (grid rows x w y))
+      next =
+          ap (fed os) (column-next co code q (grid rows x w y))
+          ∙ fed-append os (column (coRow co code q) (grid rows x w y)) _
+          ∙ ap (λ (n : ℕ). blocksOf q ++ fed (drop n os) (column (c ∷ []) (grid rows x w y))) (length-blocks q ∙ sym here)
+
+  -- the place after q blocks
+  pub column-place : {lent mid : List ℕ} {at to : ℕ} (q : ℕ) → Laid lent at (blocksOf q) to mid → to ≡ at + q * (rows * w)
+  column-place {at = at} q p = p .place ∙ ap (λ (n : ℕ). at + n) (length-fed os _ ∙ length-blocks q)
+
+-- ---- layers
 
 -- one layer more
-pub laid-layer : {lent mid left : List ℕ} {at end : ℕ} (s : Drawing) (j : ℕ) → Laid lent 0 (drawn s j) at mid
-    → Laid mid at (columnAt s (getD (s .codes) j 0)) end left → Laid lent 0 (drawn s (j + 1)) end left
-laid-layer {lent} {mid} {left} {at} {end} s j before next =
-    subst (λ (xs : List ℕ). Laid lent 0 xs end left) (sym (drawn-next s j)) (laid-append before next)
+pub laid-layer : {lent mid left : List ℕ} {at end : ℕ} (os : List ℕ) (s : Drawing) (j : ℕ) → Laid lent 0 (drawn os s j) at mid
+    → Laid mid at (fed os (columnAt s (getD (s .codes) j 0))) end left → Laid lent 0 (drawn os s (j + 1)) end left
+laid-layer {lent} {mid} {left} {at} {end} os s j before next =
+    subst (λ (xs : List ℕ). Laid lent 0 xs end left) (sym (drawn-next os s j)) (laid-append before next)
 
 -- the place after j layers
-pub drawn-place : {lent mid : List ℕ} {at : ℕ} (s : Drawing) (j : ℕ) → Laid lent 0 (drawn s j) at mid → at ≡ j * height s
-drawn-place s j p = p .place ∙ omega (arith, length-drawn s j)
+pub drawn-place : {lent mid : List ℕ} {at : ℕ} (os : List ℕ) (s : Drawing) (j : ℕ) → Laid lent 0 (drawn os s j) at mid
+    → at ≡ j * height s
+drawn-place os s j p = p .place ∙ omega (arith, length-drawn os s j)
 
 -- the last entries of a list, from place `at` on, of which sixteen are copied
 pub copied-last : {left : List ℕ} {t : Bool} (out : List ℕ) (at : ℕ)

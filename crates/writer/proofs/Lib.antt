@@ -3,6 +3,7 @@ pub mod Numbers
 pub mod Columns
 pub mod Rows
 pub mod Drawn
+pub mod Offsets
 pub mod Room
 pub mod Laid
 pub mod Unique

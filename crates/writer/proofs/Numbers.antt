@@ -6,6 +6,11 @@ use native.Mathlib.Omega.{arith}
 use mir.Syntax.{w32, w64}
 use mir.Val.{Fits}
 
+-- ---- the place in bytes of a number of 16 bits
+
+pub twice-fits : {i n : ℕ} → i < n → n ≤ 2 ^ 32 → Fits w64 (i * 2)
+twice-fits h k = omega arith
+
 -- ---- a loop that counts up
 
 pub falls : (n i : ℕ) → i < n → n - (i + 1) < n - i
@@ -22,6 +27,9 @@ module _ (at i long : ℕ) (h : i < 16) (k : at + 16 ≤ long) where
 
   pub sixteen-fits : long < 2 ^ 64 → Fits w64 (at + i)
   sixteen-fits few = omega arith
+
+  pub sixteen-twice : long * 2 < 2 ^ 63 → Fits w64 ((at + i) * 2)
+  sixteen-twice few = omega arith
 
 -- ---- sizes: v layers of n pairs of blocks of h entries
 
@@ -61,8 +69,8 @@ layer-within h v j to room long e less k same = omega (arith, mul-le-mul-right h
 
 -- ---- pairs of blocks: the two from block q on
 
-pub byte-below : (x : ℕ) → x % 256 ≤ 255
-byte-below x = omega arith
+pub nine-bits : (x : ℕ) → x % 512 ≤ 511
+nine-bits x = omega arith
 
 pub blocks-few : (pairs : ℕ) → pairs ≤ 4 → 2 * pairs ≤ 8
 blocks-few pairs h = omega arith
@@ -85,15 +93,29 @@ pair-fits pairs q few h even = record {
   falls = omega arith;
 }
 
--- their places, of h entries each
-pub record PairRoom (to h long : ℕ) : Type 0 where
+-- their places, of h entries each: in a buffer, and among offsets, where the column begins at place `at`
+pub record PairRoom (at to h q long : ℕ) : Type 0 where
   pub first : to + 16 ≤ long
   pub second : (long′ : ℕ) → long′ ≡ long → to + h + 16 ≤ long′
   pub fits : Fits w64 (to + h)
   pub fits-both : Fits w64 (to + h + h)
+  pub back : at ≤ to
+  pub here : to - at ≡ q * h
+  pub further : to - at + h ≡ (q + 1) * h
+  pub offsets : to - at + h + 16 ≤ 48
 
-pub pair-room : (at h pairs q to room long : ℕ) → to ≡ at + q * h → PairFits pairs q → at + 2 * (pairs * h) + 16 ≤ room
-    → long ≡ room → room < 2 ^ 64 → PairRoom to h long
-pair-room at h pairs q to room long e p k same few =
-    let all : to + h + h + 16 ≤ long = omega (arith, mul-le-mul-right h (p .end)) in
-    record { first = omega arith; second = λ long′ e′. omega arith; fits = omega arith; fits-both = omega arith }
+pub pair-room : (at h pairs q to room long : ℕ) → to ≡ at + q * h → PairFits pairs q → 2 * (pairs * h) ≤ 32
+    → at + 2 * (pairs * h) + 16 ≤ room → long ≡ room → room < 2 ^ 64 → PairRoom at to h q long
+pair-room at h pairs q to room long e p ports k same few =
+    let ends : q * h + h + h ≤ 2 * (pairs * h) = omega (arith, mul-le-mul-right h (p .end)) in
+    let all : to + h + h + 16 ≤ long = omega arith in
+    record {
+      first = omega arith;
+      second = λ long′ e′. omega arith;
+      fits = omega arith;
+      fits-both = omega arith;
+      back = omega arith;
+      here = omega arith;
+      further = omega arith;
+      offsets = omega arith;
+    }

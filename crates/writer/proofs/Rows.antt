@@ -1,17 +1,21 @@
 -- Places below sixteen in rows of w entries, where a product by 34 / w and a shift divide by w: nothing leaves sixteen bits.
-use mathlib.Core.Path.{_≡_, sym, ap₂, _∙_}
+use mathlib.Core.Path.{_≡_, sym, ap, ap₂, _∙_}
+use mathlib.Core.List.{List}
 use Prim.Native.Nat.{ℕ, _+_, _-_, _*_, _/_, _%_, _<_, _≤_}
 use native.Mathlib.Nat.{mul-le-mul, mod-lt, div-le-self, div-mul-le-self, mod-eq-sub-div-mul}
 use native.Mathlib.Omega.{arith}
 use lib.Dec.{eqb, eqb→eq}
-use lib.ListN.{getD}
+use lib.ListN.{length, drop, getD, length-drop}
+use lib.Seq.{getD-drop}
 use mir.Syntax.{w16}
 use mir.Val.{Fits}
 use Rattle.ground.specs.Lists.{every}
 use Rattle.ground.proofs.Tests.{every-at}
-use Rattle.turn.specs.Phase.{phase}
+use Rattle.turn.specs.Phase.{turn, phase}
+use Rattle.plan.specs.Offsets.{fed}
+use Rattle.plan.proofs.Fed.{fed-at}
 use Rattle.writer.specs.Blocks.{placed}
-use Rattle.writer.proofs.Columns.{placed-entry}
+use Rattle.writer.proofs.Columns.{length-placed, placed-entry}
 
 -- the row of place i, and its entry in the row
 abbrev row : ℕ → ℕ → ℕ
@@ -34,18 +38,19 @@ pub record Bounds (w i x y : ℕ) : Type 0 where
   pub across : Fits w16 (row w i * x)
   pub down : Fits w16 (rest w i * y)
   pub both : Fits w16 (row w i * x + rest w i * y)
-  pub sum : (c : ℕ) → c ≤ 511 → Fits w16 (c + (row w i * x + rest w i * y))
+  pub sum : (c : ℕ) → c ≤ 703 → Fits w16 (c + (row w i * x + rest w i * y))
+  pub all : (c o : ℕ) → c ≤ 703 → o < turn → Fits w16 (c + (row w i * x + rest w i * y) + o)
 
 module _ (w i : ℕ) (some : 1 ≤ w) (few : w ≤ 4) (h : i < 16) where
   rest-is : rest w i ≡ i % w
   rest-is = rw (row-is w i few h) (sym (mod-eq-sub-div-mul i w))
 
-  pub bounds : (x y : ℕ) → x ≤ 255 → y ≤ 255 → Bounds w i x y
+  pub bounds : (x y : ℕ) → x ≤ 511 → y ≤ 511 → Bounds w i x y
   bounds x y left right =
       let within : row w i * w ≤ i = rw (row-is w i few h) (div-mul-le-self i w) in
-      let a : row w i * x ≤ 3825 = mul-le-mul {n₂ = 15} {m₂ = 255}
+      let a : row w i * x ≤ 7665 = mul-le-mul {n₂ = 15} {m₂ = 511}
       (rw (row-is w i few h) (omega (arith, div-le-self i w))) left in
-      let b : rest w i * y ≤ 765 = mul-le-mul {n₂ = 3} {m₂ = 255} (rw rest-is (omega (arith, mod-lt i some))) right in
+      let b : rest w i * y ≤ 1533 = mul-le-mul {n₂ = 3} {m₂ = 511} (rw rest-is (omega (arith, mod-lt i some))) right in
       record {
         product = omega (arith, mul-le-mul {n₁ = i} {n₂ = 15} {m₂ = 34} (omega arith) (div-le-self 34 w));
         within = within;
@@ -54,9 +59,20 @@ module _ (w i : ℕ) (some : 1 ≤ w) (few : w ≤ 4) (h : i < 16) where
         down = omega arith;
         both = omega arith;
         sum = λ c k. omega arith;
+        all = λ c o k l. omega arith;
       }
 
-  -- the entry that is stored
-  pub entry-placed : (x y c : ℕ) → phase (c + (row w i * x + rest w i * y)) ≡ getD (placed w x y c) i 0
+  entry-placed : (x y c : ℕ) → phase (c + (row w i * x + rest w i * y)) ≡ getD (placed w x y c) i 0
   entry-placed x y c =
       ap₂ (λ (a b : ℕ). phase (c + (a * x + b * y))) (row-is w i few h) rest-is ∙ sym (placed-entry w x y c some i h)
+
+  -- the entry that is stored, with the offset at place p + i
+  pub entry-fed : (x y c p : ℕ) (os : List ℕ) → p + 16 ≤ length os
+      → phase (c + (row w i * x + rest w i * y) + getD os (p + i) 0) ≡ getD (fed (drop p os) (placed w x y c)) i 0
+  entry-fed x y c p os enough =
+      let e = entry-placed x y c in
+      let sum : phase (c + (row w i * x + rest w i * y) + getD os (p + i) 0)
+      ≡ phase (getD (placed w x y c) i 0 + getD os (p + i) 0) = omega (arith, e) in
+      sum
+      ∙ ap (λ (o : ℕ). phase (getD (placed w x y c) i 0 + o)) (sym (getD-drop p os i 0))
+      ∙ sym (fed-at (drop p os) (placed w x y c) i (omega (arith, length-drop p os)) (omega (arith, length-placed w x y c some)))

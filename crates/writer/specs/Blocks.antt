@@ -1,10 +1,12 @@
--- Blocks as the code draws them, with sixteen places each; what stands in a buffer while blocks are put into it; and sizes.
+-- Blocks as the code draws them, with sixteen places each; offsets as it reads them; what stands in a buffer while blocks
+-- are put into it; and sizes.
 use mathlib.Core.Path.{_≡_}
 use mathlib.Core.Bool.{Bool, _&&_}
 use mathlib.Core.List.{List, [], _∷_, _++_}
-use Prim.Native.Nat.{ℕ, _+_, _*_, _≤_}
+use Prim.Native.Nat.{ℕ, _+_, _*_, _<_, _≤_}
 use lib.Dec.{leb}
-use lib.ListN.{length, take, drop}
+use lib.ListN.{length, take, drop, getD}
+use Rattle.turn.specs.Phase.{turn, phase}
 use Rattle.turn.specs.Column.{grid, column}
 use Rattle.plan.specs.declared.Drawing.{Drawing}
 use Rattle.plan.specs.Drawing.{entries, height}
@@ -13,6 +15,14 @@ use Rattle.plan.specs.Drawing.{entries, height}
 -- c added
 unfoldable pub placed : ℕ → ℕ → ℕ → ℕ → List ℕ
 placed w x y c = take 16 (column (c ∷ []) (grid 16 x w y))
+
+-- offsets that are phases; and the first 32 of a list as such, in 48 places, with 0 where there is none
+abbrev pub Low : List ℕ → Type 0
+Low xs = (length xs ≡ 48) × ((i : ℕ) → getD xs i 0 < turn)
+
+pub record Reduced (offsets xs : List ℕ) : Type 0 where
+  pub low : Low xs
+  pub same : (i : ℕ) → i < 32 → getD xs i 0 ≡ phase (getD offsets i 0)
 
 -- sixteen places are put down from place `at` on
 abbrev pub PutAt : List ℕ → ℕ → List ℕ → List ℕ → Type 0
@@ -27,7 +37,9 @@ pub record Laid (lent : List ℕ) (at : ℕ) (xs : List ℕ) (to : ℕ) (left : 
 
 -- whether sizes can be drawn at all, and in a buffer of so many entries
 abbrev pub small : ℕ → ℕ → ℕ → ℕ → Bool
-small v pairs rows columns = leb v 8 && leb pairs 4 && leb 1 columns && leb columns 4 && leb (rows * columns) 16
+small v pairs rows columns =
+    leb v 8 && leb pairs 4 && leb 1 columns && leb columns 4 && leb (rows * columns) 16
+    && leb (2 * (pairs * (rows * columns))) 32
 
 -- the entries that v layers need, with sixteen past the last
 abbrev pub need : ℕ → ℕ → ℕ → ℕ → ℕ
@@ -40,4 +52,5 @@ pub record DrawnIn (s : Drawing) (room : ℕ) : Type 0 where
   pub some : 1 ≤ s .columns
   pub narrow : s .columns ≤ 4
   pub block : entries s ≤ 16
+  pub ports : height s ≤ 32
   pub fits : s .v * height s + 16 ≤ room

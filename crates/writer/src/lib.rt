@@ -1,6 +1,7 @@
 // The matrix of a plan, written into a lent buffer. Knows no report and no codebook.
 use plan::Drawing;
 use turn::Part;
+use turn::TURN;
 ghost use mathlib.Core.Path.{_≡_};
 ghost use mathlib.Core.Bool.{_&&_};
 ghost use Prim.Native.Nat.{_*_};
@@ -8,7 +9,7 @@ ghost use lib.Dec.{leb};
 ghost use lib.ListN.{length};
 ghost use Rattle.ground.specs.Cases.{_⇒_∣_};
 ghost use Rattle.plan.specs.Drawing.{height, drawn, Written};
-ghost use Rattle.writer.specs.Blocks.{Laid, small, need, DrawnIn};
+ghost use Rattle.writer.specs.Blocks.{Low, Reduced, Laid, small, need, DrawnIn};
 
 mod fill;
 
@@ -21,17 +22,21 @@ fn needed(v: u32, pairs: u32, rows: u32, columns: u32, room: usize) -> usize
     if !((v <= 8) & (pairs <= 4) & (1 <= columns) & (columns <= 4) & (h <= 16)) {
         return 0;
     }
-    let n = v as usize * (2 * (pairs as usize * h)) + 16;
+    let height = 2 * (pairs as usize * h);
+    if 32 < height {
+        return 0;
+    }
+    let n = v as usize * height + 16;
     if room < n {
         return 0;
     }
     n
 }
 
-// The layers, one after the other. Some entries after the last change, fewer than sixteen.
-fn layers(s: Drawing, out: &mut [Part])
-    requires { ⌜ DrawnIn s (length (now out)) ⌝ }
-    ensures { λ _. ⌜ Laid (now (out .entry)) 0 (drawn s (s .v)) (s .v * height s) (now (out .exit)) ⌝ }
+// The layers with offsets, one after the other. Some entries after the last change, fewer than sixteen.
+fn layers(s: Drawing, offsets: &[Part; fill::OFFSET_PLACES], out: &mut [Part])
+    requires { ⌜ DrawnIn s (length (now out)) × Low (now offsets) ⌝ }
+    ensures { λ _. ⌜ Laid (now (out .entry)) 0 (drawn (now (offsets .entry)) s (s .v)) (s .v * height s) (now (out .exit)) ⌝ }
 {
     let v = s.v;
     let steps = s.steps;
@@ -43,16 +48,51 @@ fn layers(s: Drawing, out: &mut [Part])
         let code = codes[j as usize];
         let place = (code / 512 % 4) as usize;
         let step = steps[place];
-        at = fill::column(out, at, s.pairs, s.rows, s.columns, step, co, code);
+        at = fill::column(
+            out,
+            at,
+            offsets,
+            s.pairs,
+            s.rows,
+            s.columns,
+            step,
+            &co,
+            code,
+        );
         j += 1;
     }
 }
 
-// Writes the layers of a drawing, one after the other, to the front of `out`, and gives the number of their entries. Entries
-// after them stay as lent. Where the sizes are larger than any plan's, or `out` has not sixteen entries more than the layers,
+// How many offsets are read, of so many: those of up to 32 ports.
+fn at_most_32(n: usize) -> usize
+    ensures { λ m. ⌜ m ≡ (leb n 32 ⇒ n ∣ 32) ⌝ }
+{
+    if n <= 32 {
+        return n;
+    }
+    32
+}
+
+// The offsets of 32 ports in the first places, reduced; 0 where there is none.
+fn reduced(offsets: &[Part]) -> [Part; fill::OFFSET_PLACES]
+    ensures { λ xs. ⌜ Reduced (now (offsets .entry)) xs ⌝ }
+{
+    let n = at_most_32(offsets.len());
+    let mut xs = [0; fill::OFFSET_PLACES];
+    let mut i = 0;
+    while i < n {
+        xs[i] = offsets[i] % TURN;
+        i += 1;
+    }
+    xs
+}
+
+// Writes the layers of a drawing, one after the other, to the front of `out`, to each entry the offset of its port added,
+// and gives the number of their entries. A port past the last offset has none; a layer has at most 32 ports. Entries after
+// the layers stay as lent. Where the sizes are larger than any plan's, or `out` has not sixteen entries more than the layers,
 // 0 is given and all of it stays.
-pub fn matrix(s: Drawing, out: &mut [Part]) -> usize
-    ensures { λ n. ⌜ Written s (now (out .entry)) n (now (out .exit)) ⌝ }
+pub fn matrix(s: Drawing, offsets: &[Part], out: &mut [Part]) -> usize
+    ensures { λ n. ⌜ Written (now (offsets .entry)) s (now (out .entry)) n (now (out .exit)) ⌝ }
 {
     let need = needed(s.v, s.pairs, s.rows, s.columns, out.len());
     if need == 0 {
@@ -60,8 +100,9 @@ pub fn matrix(s: Drawing, out: &mut [Part]) -> usize
     }
     let end = need - 16;
     let mut kept = [0; fill::PLACES];
-    ground::copy(&out[end..], fill::PLACES, &mut kept);
-    layers(s, out);
+    ground::copy_numbers(&out[end..], fill::PLACES, &mut kept);
+    let xs = reduced(offsets);
+    layers(s, &xs, out);
     fill::put(out, end, kept);
     end
 }

@@ -2,35 +2,36 @@
 use mathlib.Core.Path.{_≡_, sym, _∙_}
 use Prim.Native.Nat.{ℕ}
 use native.Mathlib.Omega.{arith}
-use lib.Dec.{ltb}
 use denote.Ref.{now}
 use borrow.Author.Needs.{needs}
 use Rattle.ground.specs.Cases.{_⇒_∣_}
 use Rattle.masks.specs.Admitted.{beforeBits, upToFirst, admitted, ofThree}
 use Rattle.masks.proofs.Bits.{from-second, from-third, none-past}
-use Rattle.masks.proofs.Given.{zeroBits, gives-early, first-passed}
+use Rattle.masks.proofs.Given.{zeroBits, lastOf, gives-early, first-passed}
 use Rattle.masks.proofs.admit_three.Statement.{statement}
 use Rattle.masks.proofs.admit_three.Tie as tie
 
 returns : tie.Need-returns
 unfolding beforeBits upToFirst
 returns c =
-    let a = c .before .before .before .args in
-    gives-early (ofThree (a .x)) (now (a .mask)) (a .ranks) (a .room) (c .before .up-to-first .ensures) (c .if1 .taken)
+    let a = c .before .before .before .before .args in
+    gives-early (ofThree (a .x)) (now (a .mask)) (a .ranks) (now (a .offsets)) (a .room) (c .before .up-to-first .ensures)
+    (c .if1 .taken)
 
--- the bits from that of beam i on are left and the room
+-- the bits from that of beam i on are left, the offsets and the room
 abbrev Left : tie.Else1 → ℕ → Type 0
 Left c i =
-    let a = c .before .before .before .args in
-    admitted (ofThree (a .x)) (now (a .mask)) (a .ranks) (a .room)
-    ≡ (zeroBits (ofThree (a .x)) (now (a .mask)) i ⇒ 10 ∣ ltb (a .room) (a .x .entries) ⇒ 11 ∣ 0)
+    let a = c .before .before .before .before .args in
+    admitted (ofThree (a .x)) (now (a .mask)) (a .ranks) (now (a .offsets)) (a .room)
+    ≡ (zeroBits (ofThree (a .x)) (now (a .mask)) i ⇒ 10 ∣ lastOf (a .x) (now (a .offsets)) (a .room))
 
 -- past the first bit, and past the second
 past-first : (c : tie.Else1) → Left c 1
 unfolding beforeBits upToFirst
 past-first c =
-    let a = c .before .before .before .args in
-    first-passed (ofThree (a .x)) (now (a .mask)) (a .ranks) (a .room) (c .before .up-to-first .ensures) (c .if1 .left)
+    let a = c .before .before .before .before .args in
+    first-passed (ofThree (a .x)) (now (a .mask)) (a .ranks) (now (a .offsets)) (a .room) (c .before .up-to-first .ensures)
+    (c .if1 .left)
 
 past-second : (c : tie.Else2) → Left (c .before .before .before .before) 2
 past-second c =
@@ -50,7 +51,7 @@ returns-3 c =
 returns-4 : tie.Need-returns-4
 returns-4 c =
     let e = c .before in
-    c .short-of .ensures
+    c .last-of .ensures
     ∙ sym (past-second (e .before .before)
     ∙ rw (
       from-third _ _ _ _ 3 (omega arith),

@@ -28,7 +28,7 @@ use Rattle.panels.proofs.judge.Statement.{statement}
 use Rattle.panels.proofs.judge.Tie as tie
 
 abbrev start : tie.After-admit-two → tie.Start
-start c = c .before .before .before .before
+start c = c .before .before .before .before .before
 
 -- at most two beams are handed over
 few-beams : (x : Needs) → x .count ≤ 2 → upToTwo x ≡ x
@@ -39,6 +39,7 @@ few-beams x h =
       refusal = x .refusal;
       bytes = x .bytes;
       v = x .v;
+      ports = x .ports;
       entries = x .entries;
       count = same i;
       width = x .width;
@@ -48,27 +49,27 @@ few-beams x h =
 
 -- the number that is given is the codebook's refusal
 number : (c : tie.After-admit-two) → let a = start c .args in
-    c .admit-two .result ≡ refusal panels (asked (a .r) (now (a .mask)) (a .ranks) (a .room))
+    c .admit-two .result ≡ refusal panels (asked (a .r) (now (a .mask)) (a .ranks) (now (a .offsets)) (a .room))
 number c =
     let a = start c .args in
     let x = c .before .needs-of .result in
     c .admit-two .ensures
-    ∙ ap (λ (y : Needs). admitted y (now (a .mask)) (a .ranks) (a .room)) (few-beams x (c .before .needs-of .ensures .2))
-    ∙ admitted-refusal panels (a .r) (now (a .mask)) (a .ranks) (a .room) indices x (c .before .needs-of .ensures .0)
+    ∙ ap (λ (y : Needs). admitted y (now (a .mask)) (a .ranks) (now (a .offsets)) (a .room)) (few-beams x (c .before .needs-of .ensures .2))
+    ∙ admitted-refusal panels (a .r) (now (a .mask)) (a .ranks) (now (a .offsets)) (a .room) indices x (c .before .needs-of .ensures .0)
 
 module _ (c : tie.Else1) where
   -- where it is 0 the report is in range
   in-range : InRange (start (c .before) .args .r)
   in-range =
       let a = start (c .before) .args in
-      accepted-in-range panels panels-lawful (a .r) (now (a .mask)) (a .ranks) (a .room)
+      accepted-in-range panels panels-lawful (a .r) (now (a .mask)) (a .ranks) (now (a .offsets)) (a .room)
       (sym (number (c .before)) ∙ c .if1 .left)
 
   own-zero : c .before .before .needs-of .result .refusal ≡ 0
   own-zero = c .before .before .needs-of .ensures .0 .refusal-is ∙ in-range-zero _ in-range
 
 -- the sizes of one panel
-sizes : (c : tie.After-own-of) → let r = c .before .before .args .r in c .own-of .result .sizes ≡ sizesOf (r .n1) (r .n2)
+sizes : (c : tie.After-own-of) → let r = c .before .before .before .args .r in c .own-of .result .sizes ≡ sizesOf (r .n1) (r .n2)
 sizes c = own-sizes _ (c .own-of .ensures)
 
 returns : tie.Need-returns
@@ -113,8 +114,8 @@ drawing-is c =
     c .drawing-of .ensures
     ∙ (λ i. drawnWith r (steps .steps-of .ensures i) (steps .before .co-of .ensures i) (y .layers-of .ensures i .codes))
 
-mul-t16 : tie.Need-mul-t16
-mul-t16 c =
+mul-t17 : tie.Need-mul-t17
+mul-t17 c =
     let e = accepted (layers (c .before .before)) in
     omega (arith, ports-few _ (sizes (e .before .before .before)) (in-range e))
 
@@ -151,5 +152,5 @@ judge-spec =
     steps-of-requires
     layers-of-requires
     (λ c κs. search needs)
-    mul-t16
+    mul-t17
     returns-2)

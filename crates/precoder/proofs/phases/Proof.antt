@@ -11,14 +11,14 @@ use Rattle.precoder.proofs.phases.Tie as tie
 
 returns : tie.Need-returns
 returns c =
-    judged.refused-answers single single-lawful drawingOf drawing-draws _ _ _ _
+    judged.refused-answers single single-lawful drawingOf drawing-draws _ _ _ _ _
     (c .before .before .before .judge .ensures) _ _ (c .before .if1 .taken)
 
 returns-2 : tie.Need-returns-2
 returns-2 c =
     let written = c .before .before .before in
     let e = written .before .before in
-    judged.phases-answer single single-lawful drawingOf drawing-draws _ _ _ _
+    judged.phases-answer single single-lawful drawingOf drawing-draws _ _ _ _ _
     (e .before .before .judge .ensures) (e .if1 .left) refl (written .phases .ensures)
 
 pub phases-spec : {M : Type 1} → statement M

@@ -18,16 +18,16 @@ unfolding fitting
 returns c =
     let m = c .before .before .before .before .before .before in
     let e = m .before .before in
-    let a = e .before .before .args in
-    copied (a .s) (m .matrix .ensures) (c .before .before .copy .ensures)
+    let a = e .before .before .before .args in
+    copied _ (a .s) (m .matrix .ensures) (c .before .before .copy-numbers .ensures)
     ∙ ap (λ (xs : List ℕ). over xs (now (a .out)))
-    (fitting-same (a .s) 128 272 (length (now (a .out))) (omega arith) (omega (arith, e .if1 .taken)))
+    (fitting-same _ (a .s) 48 272 (length (now (a .out))) (omega arith) (omega (arith, e .if1 .taken)))
 
 returns-2 : tie.Need-returns-2
 unfolding fitting
 returns-2 c =
     let m = c .before .before .before .before .before .before in
-    copied (m .before .before .before .before .args .s) (m .matrix2 .ensures) (c .before .before .copy2 .ensures)
+    copied _ (m .before .before .before .before .before .args .s) (m .matrix2 .ensures) (c .before .before .copy-numbers2 .ensures)
 
 pub phases-spec : {M : Type 1} → statement M
 phases-spec =

@@ -15,19 +15,19 @@ abbrev whole : tie.After-admit → tie.Else1
 whole c = c .before .before
 
 abbrev start : tie.After-admit → tie.Start
-start c = whole c .before .before .before
+start c = whole c .before .before .before .before
 
 returns-2 : tie.Need-returns-2
 returns-2 c =
     let k = c .before .before in
-    judged-refused _ _ _ _ (k .before .needs-of .ensures) (k .admit .ensures) (c .before .if2 .taken) (c .refuse .ensures)
+    judged-refused _ _ _ _ _ (k .before .needs-of .ensures) (k .admit .ensures) (c .before .if2 .taken) (c .refuse .ensures)
 
 -- where none applies the report is in range, and its beams are whole
 accepted : (c : tie.Else2) → let b = whole (c .before) .before .beams-of .result in let r = start (c .before) .args .r in
     InRange r × (b ≡ said r 0) × (b .half ≡ false)
 accepted c =
     let k = c .before in
-    let h = judged-in-range _ _ _ _ (k .before .needs-of .ensures) (k .admit .ensures) (c .if2 .left) in
+    let h = judged-in-range _ _ _ _ _ (k .before .needs-of .ensures) (k .admit .ensures) (c .if2 .left) in
     (h, in-range-said _ (whole k .before .beams-of .ensures) h, whole k .if1 .left)
 
 accepted-requires : tie.Need-accepted-requires
@@ -37,7 +37,7 @@ returns-3 : tie.Need-returns-3
 returns-3 c =
     let two = c .before .before .before in
     let k = two .before in
-    judged-accepted _ _ _ _ (k .before .needs-of .ensures) (k .admit .ensures) (two .if2 .left)
+    judged-accepted _ _ _ _ _ (k .before .needs-of .ensures) (k .admit .ensures) (two .if2 .left)
     (whole k .before .beams-of .ensures) refl refl (c .accepted .ensures)
 
 drawing-of-requires : tie.Need-drawing-of-requires
@@ -52,7 +52,7 @@ returns-4 c =
     let layers = drawn .before .before .before in
     let e = layers .before .before .before in
     let k = e .before in
-    judged-accepted _ _ _ _ (k .before .needs-of .ensures) (k .admit .ensures) (e .if2 .left)
+    judged-accepted _ _ _ _ _ (k .before .needs-of .ensures) (k .admit .ensures) (e .if2 .left)
     (whole k .before .beams-of .ensures) (layers .layers-of .ensures) (drawn .drawing-of .ensures) (c .accepted2 .ensures)
 
 pub judge-spec : {M : Type 1} → statement M

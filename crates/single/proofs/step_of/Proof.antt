@@ -6,10 +6,10 @@ use borrow.Author.Needs.{needs}
 use Rattle.single.proofs.step_of.Statement.{statement}
 use Rattle.single.proofs.step_of.Tie as tie
 
-x-small : (s : tie.Start) → s .args .l * s .args .px ≤ 255 * 255
+x-small : (s : tie.Start) → s .args .l * s .args .px ≤ 255 * 511
 x-small s = mul-le-mul (s .pre .0) (s .pre .2)
 
-y-small : (s : tie.Start) → s .args .m * s .args .py ≤ 255 * 255
+y-small : (s : tie.Start) → s .args .m * s .args .py ≤ 255 * 511
 y-small s = mul-le-mul (s .pre .1) (s .pre .3)
 
 pub step-of-spec : {M : Type 1} → statement M

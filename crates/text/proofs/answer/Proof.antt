@@ -3,7 +3,6 @@ use mathlib.Core.Path.{_≡_, refl, sym, _∙_}
 use mathlib.Core.Bool.{true}
 use native.Mathlib.Omega.{arith}
 use lib.Dec.{lit≤}
-use lib.ListN.{length}
 use borrow.Author.Tests.{not-true, not-false}
 use Rattle.text.specs.Text.{printable}
 use Rattle.text.proofs.Writes.{writes-nothing, writes-composed}
@@ -16,7 +15,7 @@ returns c =
     rw no (writes-nothing _ _)
 
 may : (c : tie.Else1) → let a = c .before .before .before .before .args in
-    printable (a .a) (length (a .phases .now)) ≡ true
+    printable (a .a) (a .phases .now) ≡ true
 may c = sym (c .before .is-printable .ensures) ∙ not-false _ (c .if1 .left)
 
 compose-requires : tie.Need-compose-requires

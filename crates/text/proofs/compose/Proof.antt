@@ -10,7 +10,7 @@ use Rattle.text.specs.Text.{okText}
 use Rattle.text.proofs.Adds.{adds-then}
 use Rattle.text.proofs.Words.{ended-few}
 use Rattle.text.proofs.Lines.{ok-few, refused-words}
-use Rattle.text.proofs.Records.{text-accepted, text-refused, limits}
+use Rattle.text.proofs.Records.{text-accepted, text-refused, limits, phases-many, phases-short}
 use Rattle.text.proofs.compose.Statement.{statement}
 use Rattle.text.proofs.compose.Tie as tie
 
@@ -41,7 +41,7 @@ lines-requires c κs =
     let s = e .before .before .before .before .before in
     let known = limits _ _ (s .pre .0) in
     let entries = mul-le-mul (known .layers) (known .ports) in
-    (known .entries, omega (arith, first s, e .accepted .ensures .long))
+    (phases-many _ _ (s .pre .0), phases-short _ _ (s .pre .0), omega (arith, first s, e .accepted .ensures .long))
 
 returns-2 : tie.Need-returns-2
 returns-2 c =

@@ -42,7 +42,7 @@ returns-2 c =
     let sizes = own-sizes _ (s .pre) in
     let other = own-other _ (s .pre) (e .if1 .left) in
     let count = c .before .before .before .count-of .ensures in (
-      asks _ sizes _ (sym (e .if1 .left) ∙ own-number _ (s .pre)) refl refl (λ h. (bits-are _ sizes h count other, refl)),
+      asks _ sizes _ (sym (e .if1 .left) ∙ own-number _ (s .pre)) refl refl (λ h. (bits-are _ sizes h count other, refl, refl)),
       λ z. has-beams _ sizes h _ other refl refl,
       rw count (few-beams (s .args .r .v)),
     )

@@ -1,4 +1,4 @@
--- `choice::choose` meets its contract: its beams are those of the offsets, and two ports have none but (0,0).
+-- `choice::choose` meets its contract: its beams are those of the moves, and two ports have none but (0,0).
 use mathlib.Core.Path.{_≡_, sym, ap, _∙_}
 use mathlib.Core.Bool.{false}
 use Prim.Native.Nat.{_≤_}
@@ -10,7 +10,7 @@ use Rattle.settings.specs.Ranges.{halfLength}
 use Rattle.report.specs.Beams.{isHalf, Small}
 use Rattle.report.proofs.InRange.{v-some, i11-small, i12-small}
 use Rattle.report.proofs.Steps.{row-small, moved-small, moved-from-base}
-use Rattle.report.proofs.Offsets.{whole-few, said-single, said-two}
+use Rattle.report.proofs.Moves.{whole-few, said-single, said-two}
 use Rattle.report.proofs.Reached.{two-ports-said}
 use Rattle.report.proofs.choice.choose.Statement.{statement}
 use Rattle.report.proofs.choice.choose.Tie as tie

@@ -1,4 +1,4 @@
--- `choice::choose_many` meets its contract: its beams are those of the offsets, whose steps N2 decides.
+-- `choice::choose_many` meets its contract: its beams are those of the moves, whose steps N2 decides.
 use mathlib.Core.Path.{_≡_, refl}
 use mathlib.Core.Bool.{true, false, cond}
 use mathlib.Core.List.{[], _∷_}
@@ -14,7 +14,7 @@ use Rattle.report.specs.declared.Beams.{Beams}
 use Rattle.report.specs.Beams.{base, moved, saidOf, Small}
 use Rattle.report.proofs.InRange.{two-ports-v}
 use Rattle.report.proofs.Steps.{is-small, base-movable, moved-from-base}
-use Rattle.report.proofs.Offsets.{saidAll, said-three, said-four}
+use Rattle.report.proofs.Moves.{saidAll, said-three, said-four}
 use Rattle.report.proofs.choice.choose_many.Statement.{statement}
 use Rattle.report.proofs.choice.choose_many.Tie as tie
 

@@ -8,18 +8,18 @@ use Rattle.single.proofs.half.judge.Statement.{statement}
 use Rattle.single.proofs.half.judge.Tie as tie
 
 abbrev start : tie.After-admit-three → tie.Start
-start c = c .before .before .before
+start c = c .before .before .before .before
 
 returns : tie.Need-returns
 returns c =
     let k = c .before .before in
-    judged-refused _ _ _ _ (k .before .needs-of .ensures) (k .admit-three .ensures) (c .before .if1 .taken) (c .refuse .ensures)
+    judged-refused _ _ _ _ _ (k .before .needs-of .ensures) (k .admit-three .ensures) (c .before .if1 .taken) (c .refuse .ensures)
 
 layers-of-requires : tie.Need-layers-of-requires
 layers-of-requires c κs =
     let k = c .before in
     let (e, half) = start k .pre in
-    let h = judged-in-range _ _ _ _ (k .before .needs-of .ensures) (k .admit-three .ensures) (c .if1 .left) in
+    let h = judged-in-range _ _ _ _ _ (k .before .needs-of .ensures) (k .admit-three .ensures) (c .if1 .left) in
     (h, in-range-said _ e h, half)
 
 drawing-of-requires : tie.Need-drawing-of-requires
@@ -33,7 +33,7 @@ returns-2 c =
     let drawn = c .before in
     let layers = drawn .before .before .before in
     let k = layers .before .before in
-    judged-accepted _ _ _ _ (k .before .needs-of .ensures) (k .admit-three .ensures) (layers .before .if1 .left)
+    judged-accepted _ _ _ _ _ (k .before .needs-of .ensures) (k .admit-three .ensures) (layers .before .if1 .left)
     (start k .pre .0) (layers .layers-of .ensures) (drawn .drawing-of .ensures) (c .accepted .ensures)
 
 pub judge-spec : {M : Type 1} → statement M

@@ -35,7 +35,7 @@ returns c =
     let before = c .before .before in
     let (e, half) = before .before .before .before .pre in
     asks _ e _ (sym (half-accepted _ e half)) refl refl
-    (λ z. (half-bits-asked _ e z half (before .row-before .ensures), refl))
+    (λ z. (half-bits-asked _ e z half (before .row-before .ensures), refl, refl))
 
 pub needs-of-spec : {M : Type 1} → statement M
 needs-of-spec =

@@ -6,9 +6,11 @@ use native.Mathlib.Numerals.{add-one}
 use native.Mathlib.Omega.{arith}
 use lib.Dec.{lit≤}
 use lib.ListN.{length, getD}
+use borrow.Author.Needs.{needs}
 use Rattle.text.specs.Words.{ended}
 use Rattle.text.specs.Text.{Adds}
 use Rattle.text.proofs.Adds.{adds-nothing, adds-then, adds-length}
+use Rattle.text.proofs.Digits.{short-at}
 use Rattle.text.proofs.Words.{ended-few}
 use Rattle.text.proofs.Lines.{linesBegun, lines-all, width-some}
 use Rattle.text.proofs.write.lines.Statement.{statement}
@@ -29,11 +31,15 @@ loop-holds c = (omega arith, adds-nothing _ _ (omega arith), omega arith)
 some : (c : tie.In-loop Inv-loop μ-loop) → 1 ≤ c .before .before .before .before .args .p
 some c = width-some _ _ _ (c .loop-test .taken)
 
--- a byte has three digits at most
+-- a phase has three digits at most
 short : (c : tie.After-shared-slice-known2 Inv-loop μ-loop) → let i = c .before .before .loop .i in
     let a = c .before .before .before .before .before .args in
     length (ended (getD (a .phases .now) i 0) (a .p - 1 - i % a .p)) ≤ 4
-short c = ended-few 3 _ _ (lit≤ tt) (omega (arith, c .shared-slice-known2 .given (c .before .before .loop .i)))
+short c =
+    let s = c .before .before .before .before .before in
+    let n = s .args .v * s .args .p in
+    ended-few 3 _ _ (lit≤ tt)
+    (omega (arith, short-at n (c .before .before .loop .i) (s .args .phases .now) (s .pre .1) (c .before .loop-test .taken)))
 
 ended-requires : tie.Need-ended-requires Inv-loop μ-loop
 ended-requires c κs = omega (arith, short (c .before), adds-length (c .before .before .before .loop .inv .1))
@@ -63,6 +69,7 @@ lines-spec =
     μ-loop
     (λ c. omega arith)
     loop-holds
+    (λ c. search needs)
     (λ c. omega arith)
     (λ c. omega (arith, c .shared-slice-known2 .given (c .before .before .loop .i)))
     (λ c. some (c .before))

@@ -9,7 +9,7 @@ use lib.ListN.{length, length-set}
 use lib.Seq.{paste, paste-zero}
 use mir.Facts.{fits-below}
 use Rattle.ground.proofs.Written.{stored-at, stored-all-at}
-use Rattle.writer.proofs.Numbers.{falls, next-within, sixteen-within, sixteen-fits}
+use Rattle.writer.proofs.Numbers.{twice-fits, falls, next-within, sixteen-within, sixteen-fits, sixteen-twice}
 use Rattle.writer.proofs.fill.put.Statement.{statement}
 use Rattle.writer.proofs.fill.put.Tie as tie
 
@@ -45,8 +45,10 @@ put-spec =
     Inv-loop
     μ-loop
     loop-holds
+    (λ c. twice-fits (c .loop-test .taken) (lit≤ tt))
     (λ c. c .loop-test .taken)
     (λ c. sixteen-fits _ _ _ (c .loop-test .taken) (c .before .before .pre) (c .before .before .good .0 .0))
+    (λ c. sixteen-twice _ _ _ (c .loop-test .taken) (c .before .before .pre) (c .before .before .good .0 .1))
     (λ c. sixteen-within _ _ _ (c .loop-test .taken) (c .before .before .pre) _ (c .before .loop .inv .2))
     (λ c. fits-below tt (next-within 16 _ (c .loop-test .taken)))
     (λ c. falls 16 _ (c .loop-test .taken))
