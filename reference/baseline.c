@@ -3,23 +3,24 @@
 #include "baseline.h"
 
 enum { TURN = 384, HALF = TURN / 2, QUARTER = TURN / 4, EIGHTH = TURN / 8 };
-enum { MOST_N1 = 16, MOST_N2 = 4, MOST_V = 8, MOST_PORTS = 32, MOST_ENTRIES = MOST_V * MOST_PORTS };
+enum { MOST_N1 = 16, MOST_N2 = 4, MOST_V = 8, MOST_ENTRIES = 256 };
 enum { MOST_PANELS = 4, MOST_PANEL_N1 = 8, MOST_PANEL_N2 = 2, MOST_PANEL_V = 4, MOST_PANEL_ENTRIES = 128 };
 
 typedef struct { uint8_t l, m; } beam;
 
-// An accepted report: its ports, f, and B, B', B'', B''', reduced; for a half-length beam, which stands twice, what is
-// added in the second half of each polarisation. Two ports have (0,0).
+// An accepted report: rows by columns of its beams, its blocks of ports, f and t, and B, B', B'', B''', reduced. A
+// half-length beam stands twice, and two ports have (0,0).
 typedef struct {
-    uint8_t ports, half_length;
+    uint8_t ports, rows, columns, blocks;
     uint16_t f, t;
     beam beams[4];
 } plan;
 
-// An accepted multi-panel report: its ports, what is added in each polarisation of each panel, and B and B', reduced.
+// An accepted multi-panel report: f, what turns the two polarisations of the first panel into those of each other panel,
+// and B and B', reduced.
 typedef struct {
     uint8_t ports;
-    uint16_t turns[2 * MOST_PANELS];
+    uint16_t f, turns[MOST_PANELS - 1][2];
     beam beams[2];
 } panel_plan;
 
@@ -38,7 +39,7 @@ static const uint8_t panel_ports_of[MOST_PANELS / 2 + 1][MOST_PANEL_N2 + 1][MOST
 };
 
 // The phase for one step of l or m by N1 or N2. In a direction of one antenna l or m is 0.
-static const uint8_t step_of[MOST_N1 + 1] = {
+static const uint16_t step_of[MOST_N1 + 1] = {
     [2] = TURN / 8, [3] = TURN / 12, [4] = TURN / 16, [6] = TURN / 24, [8] = TURN / 32, [12] = TURN / 48, [16] = TURN / 64,
 };
 
@@ -57,7 +58,7 @@ static const beam k_eight_wide[3] = {{1, 0}, {0, 1}, {1, 1}};
 static const beam k_many_line[3] = {{1, 0}, {2, 0}, {3, 0}};
 
 // A layer: the place of its beam, how many times f is added to the second polarisation, and what else is.
-typedef struct { uint8_t place, times_f, added; } column;
+typedef struct { uint8_t place, times_f; uint16_t added; } column;
 
 static const column columns_of[MOST_V + 1][MOST_V] = {
     [1] = {{0, 1, 0}},
@@ -70,10 +71,8 @@ static const column columns_of[MOST_V + 1][MOST_V] = {
     [8] = {{0, 1, 0}, {0, 1, HALF}, {1, 1, 0}, {1, 1, HALF}, {2, 0, 0}, {2, 0, HALF}, {3, 0, 0}, {3, 0, HALF}},
 };
 
-typedef struct { int16_t x, y; } weight;
-
 // 16384 times cosine and sine of each phase, to the nearest whole number.
-static const weight weight_of[TURN] = {
+static const int16_t weight_of[TURN][2] = {
     {16384, 0}, {16382, 268}, {16375, 536}, {16364, 804}, {16349, 1072}, {16329, 1339}, {16305, 1606}, {16277, 1872},
     {16244, 2139}, {16207, 2404}, {16165, 2669}, {16119, 2933}, {16069, 3196}, {16015, 3459}, {15956, 3720},
     {15893, 3981}, {15826, 4240}, {15754, 4499}, {15679, 4756}, {15599, 5012}, {15515, 5266}, {15426, 5520},
@@ -133,7 +132,22 @@ static const weight weight_of[TURN] = {
     {16277, -1872}, {16305, -1606}, {16329, -1339}, {16349, -1072}, {16364, -804}, {16375, -536}, {16382, -268},
 };
 
+// The sum of two phases, both below a turn.
+static inline uint16_t turned(uint16_t phase, uint16_t by) {
+    uint16_t rest = TURN - by;
+    return phase < rest ? phase + by : phase - rest;
+}
+
 static inline int mask_bit(const uint8_t *mask, unsigned k) { return mask[k / 8] >> k % 8 & 1; }
+
+// Whether there is an offset for each port, and none is a turn or more.
+static int offsets_fit(const uint16_t *offsets, size_t offsets_len, size_t ports) {
+    if (offsets_len != ports) return 0;
+    for (size_t i = 0; i < ports; i++) {
+        if (offsets[i] >= TURN) return 0;
+    }
+    return 1;
+}
 
 // By the ports of one panel.
 static uint32_t i13_values(unsigned ports, unsigned v, int half_length) {
@@ -158,14 +172,6 @@ static const beam *steps_of(unsigned n1, unsigned n2, unsigned v, unsigned i13) 
 // A beam, reduced. Neither number reaches twice the beams of its direction.
 static inline beam reduced(unsigned l, unsigned m, unsigned across, unsigned down) {
     return (beam){l < across ? l : l - across, m < down ? m : m - down};
-}
-
-// Whether there is an offset for each port, and none is a turn or more.
-static int offsets_fit(const uint16_t *offsets, size_t offsets_len, size_t ports) {
-    if (offsets_len != ports) return 0;
-    uint16_t unfit = 0;
-    for (size_t i = 0; i < ports; i++) unfit |= offsets[i] >= TURN;
-    return !unfit;
 }
 
 // Gives the first refusal that applies, or 0 and the plan.
@@ -219,9 +225,10 @@ static uint32_t judge(const aspenflick_report *r, const uint8_t *mask, size_t ma
     if (room < v * ports) return 11;
 
     p->ports = ports;
-    p->half_length = half_length;
+    p->blocks = half_length ? 4 : 2;
+    p->rows = half_length ? r->n1 / 2 : r->n1;
+    p->columns = r->n2;
     p->f = n * QUARTER;
-    // A half-length beam is the first half of the whole one, whose second half is the first turned by i11 quarters.
     p->t = r->i13 * EIGHTH;
     return 0;
 }
@@ -260,25 +267,17 @@ static uint32_t judge_panels(const aspenflick_panel_report *r, const uint8_t *ma
     if (room < v * ports) return 11;
 
     p->ports = ports;
-    p->turns[0] = 0;
-    p->turns[1] = i2[0] * QUARTER;
+    p->f = i2[0] * QUARTER;
     if (r->mode == 2) {
-        p->turns[2] = (i14[0] + i2[1]) * QUARTER;
-        p->turns[3] = (i14[1] + i2[2]) * QUARTER;
+        p->turns[0][0] = (i14[0] + i2[1]) % 4 * QUARTER;
+        p->turns[0][1] = (i14[1] + i2[2] - i2[0]) % 4 * QUARTER;
     } else {
-        for (unsigned g = 1; g < r->ng; g++) {
-            p->turns[2 * g] = i14[g - 1] * QUARTER;
-            p->turns[2 * g + 1] = (i14[g - 1] + i2[0]) * QUARTER;
-        }
+        for (unsigned g = 0; g < r->ng - 1; g++) p->turns[g][0] = p->turns[g][1] = i14[g] * QUARTER;
     }
     return 0;
 }
 
-
-static inline uint16_t turned(uint16_t phase, uint16_t by) {
-    uint16_t sum = phase + by;
-    return sum < TURN ? sum : sum - TURN;
-}
+// Writes a beam: the first row by steps of `down`, and every other row from the one before it.
 static void write_beam(uint16_t *out, size_t rows, size_t columns, uint16_t across, uint16_t down) {
     uint16_t phase = 0;
     for (size_t i = 0; i < columns; i++) {
@@ -287,43 +286,55 @@ static void write_beam(uint16_t *out, size_t rows, size_t columns, uint16_t acro
     }
     for (size_t i = columns; i < rows * columns; i++) out[i] = turned(out[i - columns], across);
 }
+
 static void write_turned(uint16_t *restrict out, const uint16_t *restrict block, size_t n, uint16_t by) {
     for (size_t i = 0; i < n; i++) out[i] = turned(block[i], by);
 }
-static void add_offsets(uint16_t *restrict out, const uint16_t *restrict offsets, size_t n) {
-    for (size_t i = 0; i < n; i++) out[i] = turned(out[i], offsets[i]);
+
+// Adds the offset of each port to every layer.
+static void add_offsets(uint16_t *restrict out, const uint16_t *restrict offsets, size_t ports, size_t v) {
+    for (size_t j = 0; j < v; j++, out += ports) {
+        for (size_t i = 0; i < ports; i++) out[i] = turned(out[i], offsets[i]);
+    }
 }
-static void write_layers(const aspenflick_report *r, const plan *p, const uint16_t *offsets, uint16_t *out) {
-    size_t rows = p->half_length ? r->n1 / 2 : r->n1, size = rows * r->n2;
+
+// Writes every layer: its first block as a beam, and the others from it.
+static void write_layers(const aspenflick_report *r, const plan *p, uint16_t *out) {
+    size_t size = p->rows * p->columns;
     for (size_t j = 0; j < r->v; j++, out += p->ports) {
         const column *c = &columns_of[r->v][j];
         const beam *b = &p->beams[c->place];
-        write_beam(out, rows, r->n2, b->l * step_of[r->n1], b->m * step_of[r->n2]);
+        write_beam(out, p->rows, p->columns, b->l * step_of[r->n1], b->m * step_of[r->n2]);
         uint16_t second = c->times_f ? turned(p->f, c->added) : c->added;
-        if (!p->half_length) {
+        if (p->blocks == 2) {
             write_turned(out + size, out, size, second);
         } else {
             uint16_t quarter = turned(p->t, c->place ? HALF : 0);
             write_turned(out + size, out, size, quarter);
             write_turned(out + 2 * size, out, 2 * size, second);
         }
-        add_offsets(out, offsets, p->ports);
     }
 }
-static void write_panels(const aspenflick_panel_report *r, const panel_plan *p, const uint16_t *offsets, uint16_t *out) {
+
+// Writes every layer: its first panel, and the others from it.
+static void write_panels(const aspenflick_panel_report *r, const panel_plan *p, uint16_t *out) {
     size_t size = r->n1 * r->n2;
     for (size_t j = 0; j < r->v; j++) {
         const column *c = &columns_of[r->v][j];
         const beam *b = &p->beams[c->place];
-        uint16_t *layer = out;
+        const uint16_t *panel = out;
         write_beam(out, r->n1, r->n2, b->l * step_of[r->n1], b->m * step_of[r->n2]);
-        write_turned(out + size, layer, size, turned(p->turns[1], c->added));
+        write_turned(out + size, panel, size, turned(p->f, c->added));
         out += 2 * size;
-        for (size_t g = 1; g < r->ng; g++, out += 2 * size) {
-            write_turned(out, layer, size, p->turns[2 * g] % TURN);
-            write_turned(out + size, layer, size, turned(p->turns[2 * g + 1] % TURN, c->added));
+        for (size_t g = 0; g < r->ng - 1; g++, out += 2 * size) {
+            const uint16_t *turns = p->turns[g];
+            if (turns[0] == turns[1]) {
+                write_turned(out, panel, 2 * size, turns[0]);
+            } else {
+                write_turned(out, panel, size, turns[0]);
+                write_turned(out + size, panel + size, size, turns[1]);
+            }
         }
-        add_offsets(layer, offsets, p->ports);
     }
 }
 
@@ -340,8 +351,10 @@ static aspenflick_record accepted(uint32_t ports, uint32_t v, const beam *beams)
 }
 
 static void write_weights(int16_t *restrict out, const uint16_t *restrict phases, size_t n) {
-    weight *weights = (weight *)out;
-    for (size_t i = 0; i < n; i++) weights[i] = weight_of[phases[i]];
+    for (size_t i = 0; i < n; i++) {
+        out[2 * i] = weight_of[phases[i]][0];
+        out[2 * i + 1] = weight_of[phases[i]][1];
+    }
 }
 
 aspenflick_record baseline_phases(aspenflick_report r, const uint8_t *mask, size_t mask_len, uint8_t ranks,
@@ -349,7 +362,8 @@ aspenflick_record baseline_phases(aspenflick_report r, const uint8_t *mask, size
     plan p;
     uint32_t refusal = judge(&r, mask, mask_len, ranks, offsets, offsets_len, out_len, &p);
     if (refusal) return refused(refusal);
-    write_layers(&r, &p, offsets, out);
+    write_layers(&r, &p, out);
+    add_offsets(out, offsets, p.ports, r.v);
     return accepted(p.ports, r.v, p.beams);
 }
 
@@ -359,7 +373,8 @@ aspenflick_record baseline_weights(aspenflick_report r, const uint8_t *mask, siz
     uint32_t refusal = judge(&r, mask, mask_len, ranks, offsets, offsets_len, out_len / 2, &p);
     if (refusal) return refused(refusal);
     uint16_t phases[MOST_ENTRIES];
-    write_layers(&r, &p, offsets, phases);
+    write_layers(&r, &p, phases);
+    add_offsets(phases, offsets, p.ports, r.v);
     write_weights(out, phases, r.v * p.ports);
     return accepted(p.ports, r.v, p.beams);
 }
@@ -369,7 +384,8 @@ aspenflick_record baseline_panel_phases(aspenflick_panel_report r, const uint8_t
     panel_plan p;
     uint32_t refusal = judge_panels(&r, mask, mask_len, ranks, offsets, offsets_len, out_len, &p);
     if (refusal) return refused(refusal);
-    write_panels(&r, &p, offsets, out);
+    write_panels(&r, &p, out);
+    add_offsets(out, offsets, p.ports, r.v);
     return accepted(p.ports, r.v, p.beams);
 }
 
@@ -379,7 +395,8 @@ aspenflick_record baseline_panel_weights(aspenflick_panel_report r, const uint8_
     uint32_t refusal = judge_panels(&r, mask, mask_len, ranks, offsets, offsets_len, out_len / 2, &p);
     if (refusal) return refused(refusal);
     uint16_t phases[MOST_PANEL_ENTRIES];
-    write_panels(&r, &p, offsets, phases);
+    write_panels(&r, &p, phases);
+    add_offsets(phases, offsets, p.ports, r.v);
     write_weights(out, phases, r.v * p.ports);
     return accepted(p.ports, r.v, p.beams);
 }

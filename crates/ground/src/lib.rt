@@ -20,19 +20,19 @@ pub fn copy(from: &[u8], n: usize, out: &mut [u8]) -> bool
 }
 
 // The same of numbers of 16 bits.
-pub fn copy_numbers(from: &[u16], n: usize, out: &mut [u16]) -> bool
-    ensures { λ t. ⌜ Copied (now (from .entry)) n (now (out .entry)) t (now (out .exit)) ⌝ }
+pub fn copy_numbers(numbers: &[u16], n: usize, to: &mut [u16]) -> bool
+    ensures { λ t. ⌜ Copied (now (numbers .entry)) n (now (to .entry)) t (now (to .exit)) ⌝ }
 {
-    if from.len() < n {
+    if numbers.len() < n {
         return false;
     }
-    if out.len() < n {
+    if to.len() < n {
         return false;
     }
-    let mut i = 0;
-    while i < n {
-        out[i] = from[i];
-        i += 1;
+    let mut k = 0;
+    while k < n {
+        to[k] = numbers[k];
+        k += 1;
     }
     true
 }

@@ -1,16 +1,16 @@
 -- The matrix of a sound plan is 01's, doubled: its co-phases are whole eighths of a turn and its steps are even.
 use mathlib.Core.Path.{_≡_, refl, sym, ap, ap₂, _∙_}
-use mathlib.Core.List.{List, [], _∷_, _++_, map, map-append}
+use mathlib.Core.List.{List, [], _∷_, map, map-append}
 use Prim.Native.Nat.{ℕ, zero, suc, _+_, _*_, _/_, _%_, _<_}
 use native.Mathlib.Nat.{mul-assoc, mul-comm, div-div-eq-div-mul, mul-div-mul-left}
 use native.Mathlib.Omega.{arith}
 use lib.Dec.{lit<}
 use lib.ListN.{length, getD}
-use Rattle.ground.specs.Lists.{join, All, all-nil, all-cons}
+use Rattle.ground.specs.Lists.{join, all-nil, all-cons}
 use Rattle.turn.specs.Phase.{turn, eighth, phase}
 use Rattle.turn.specs.Column.{Setting, steps, product, grid, step, beam, column}
 use Rattle.turn.specs.Cancel.{Multiples}
-use Rattle.plan.specs.Plan.{Layer, Plan, past, layerAt, columnOf, matrix}
+use Rattle.plan.specs.Plan.{Layer, Plan, past, columnOf, matrix}
 use Rattle.plan.specs.Base.{baseTurn, halved, doubled, baseStep, baseBeam, baseColumn, baseMatrix}
 use Rattle.plan.specs.Sound.{Sound}
 

@@ -8,7 +8,7 @@ use native.Mathlib.Omega.{arith}
 use lib.Dec.{lit<}
 use lib.Arith.{digits-lt}
 use lib.ListN.{length, getD}
-use Rattle.ground.specs.Lists.{join, All, all-nil, all-cons}
+use Rattle.ground.specs.Lists.{All, all-nil, all-cons}
 use Rattle.ground.proofs.Lists.{length-join, join-part, join-entry}
 use Rattle.turn.specs.Phase.{turn, phase}
 use Rattle.turn.specs.Column.{Setting, Divides, product, beam, column}

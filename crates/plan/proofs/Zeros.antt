@@ -1,7 +1,7 @@
 -- With offsets of 0 a call answers as before there were any: by the same refusal, and with 01's phases, doubled.
 use mathlib.Core.Path.{_≡_, refl, sym, ap, _∙_}
 use mathlib.Core.Logic.{_≢_}
-use mathlib.Core.Bool.{true, false, not, _||_, true≢false}
+use mathlib.Core.Bool.{true, false, not, true≢false}
 use mathlib.Core.List.{List, map}
 use Prim.Native.Nat.{ℕ, zero, suc}
 use native.Mathlib.Omega.{arith}
@@ -9,7 +9,7 @@ use lib.Dec.{eqb, leb, eqb-refl}
 use lib.ListN.{length, replicate, length-replicate}
 use borrow.Author.Tests.{ne-eqb}
 use Rattle.ground.specs.Lists.{some}
-use Rattle.ground.specs.First.{first, part}
+use Rattle.ground.specs.First.{first}
 use Rattle.ground.proofs.Booleans.{is-true}
 use Rattle.ground.proofs.First.{first-part, first-of}
 use Rattle.turn.specs.Phase.{turn}
@@ -29,7 +29,7 @@ unfolding some
 none-high zero = refl
 none-high (suc n) = none-high n
 
-zeros-fit : (n : ℕ) → unfit n (replicate n 0) ≡ false
+pub zeros-fit : (n : ℕ) → unfit n (replicate n 0) ≡ false
 unfolding unfit
 zeros-fit n = rw (length-replicate {A = ℕ} n 0, none-high n, is-true (eqb n n) (eqb-refl n))
 

@@ -7,7 +7,7 @@ use mathlib.Core.List.{List, [], _∷_, _++_}
 use Prim.Native.Nat.{ℕ, zero, suc, _-_, _*_, _/_, _%_, _<_}
 use native.Mathlib.Nat.{mul-le-mul}
 use native.Mathlib.Omega.{arith}
-use lib.Dec.{T, eqb, leb, eqb-refl, eqb→eq}
+use lib.Dec.{T, eqb, eqb-refl, eqb→eq}
 use lib.ListN.{length, replicate, length-replicate, getD-replicate}
 use borrow.Author.Tests.{not-false, eq-eqb, le-ltb}
 use Rattle.ground.specs.Lists.{some, each, every, among}
@@ -15,7 +15,6 @@ use Rattle.ground.specs.First.{first, numbered}
 use Rattle.ground.proofs.Booleans.{cond-both}
 use Rattle.ground.proofs.Tests.{and-left, and-right, or-left, or-right, every-at}
 use Rattle.ground.proofs.First.{first-none, first-stop, first-insert, none-zero, none-within}
-use Rattle.turn.specs.Phase.{turn}
 use Rattle.settings.specs.Settings.{isSetting, ports, maskBytes}
 use Rattle.settings.specs.Ranges.{isRank}
 use Rattle.settings.proofs.Known.{ports-few}
@@ -23,9 +22,9 @@ use Rattle.settings.proofs.Ranked.{rank-of}
 use Rattle.report.specs.declared.Report.{Report}
 use Rattle.report.specs.Rules.{rule, ownOrder, InRange}
 use Rattle.report.proofs.InRange.{in-range}
-use Rattle.plan.specs.Offsets.{unfit}
 use Rattle.plan.specs.Masks.{bitOf, bit, isZero, barred, rankBarred}
 use Rattle.plan.specs.Answer.{early, test, refusal}
+use Rattle.plan.proofs.Zeros.{zeros-fit}
 use Rattle.single.specs.Single.{single}
 use Rattle.single.proofs.Lawful.{single-lawful}
 use Rattle.printer.specs.Prints.{fullMask, noOffsets, askedOf, refusalOf}
@@ -66,17 +65,6 @@ not-barred mask [] h = refl
 not-barred mask (k ∷ ks) h =
     rw (h k (or-left (eqb k k) (among k ks) (eqb-refl k)))
     (not-barred mask ks (λ j t. h j (or-right (eqb j k) (among j ks) t)))
-
--- ---- offsets of 0
-
-none-high : (n : ℕ) → some (leb turn) (replicate n 0) ≡ false
-unfolding some
-none-high zero = refl
-none-high (suc n) = none-high n
-
-zeros-fit : (n : ℕ) → unfit n (replicate n 0) ≡ false
-unfolding unfit
-zeros-fit n = rw (eq-eqb _ n (length-replicate {A = ℕ} n 0), none-high n)
 
 module _ (r : Report) where
   abbrev tests : ℕ → Bool

@@ -11,7 +11,7 @@ use mir.Syntax.{w16}
 use mir.Val.{Fits}
 use Rattle.ground.specs.Lists.{every}
 use Rattle.ground.proofs.Tests.{every-at}
-use Rattle.turn.specs.Phase.{turn, phase}
+use Rattle.turn.specs.Phase.{turn, half, phase}
 use Rattle.plan.specs.Offsets.{fed}
 use Rattle.plan.proofs.Fed.{fed-at}
 use Rattle.writer.specs.Blocks.{placed}
@@ -38,8 +38,8 @@ pub record Bounds (w i x y : ℕ) : Type 0 where
   pub across : Fits w16 (row w i * x)
   pub down : Fits w16 (rest w i * y)
   pub both : Fits w16 (row w i * x + rest w i * y)
-  pub sum : (c : ℕ) → c ≤ 703 → Fits w16 (c + (row w i * x + rest w i * y))
-  pub all : (c o : ℕ) → c ≤ 703 → o < turn → Fits w16 (c + (row w i * x + rest w i * y) + o)
+  pub sum : (c : ℕ) → c ≤ 511 + half → Fits w16 (c + (row w i * x + rest w i * y))
+  pub all : (c o : ℕ) → c ≤ 511 + half → o < turn → Fits w16 (c + (row w i * x + rest w i * y) + o)
 
 module _ (w i : ℕ) (some : 1 ≤ w) (few : w ≤ 4) (h : i < 16) where
   rest-is : rest w i ≡ i % w

@@ -4,6 +4,7 @@ use turn::TURN;
 ghost use mathlib.Core.Path.{_≡_};
 ghost use Prim.Native.Nat.{_+_, _*_, _<_, _≤_};
 ghost use lib.ListN.{length, drop};
+ghost use Rattle.turn.specs.Phase.{half};
 ghost use Rattle.turn.specs.Column.{grid, column};
 ghost use Rattle.plan.specs.Offsets.{fed};
 ghost use Rattle.plan.specs.Drawing.{coAt, coRow, stepX, stepY};
@@ -32,7 +33,7 @@ fn draw(
     c: u16,
     d: u16,
 ) -> [Part; PLACES]
-    requires { ⌜ (1 ≤ w) × (w ≤ 4) × (x ≤ 511) × (y ≤ 511) × (c ≤ 703) × (d ≤ 703) × (at + 16 ≤ length (now out))
+    requires { ⌜ (1 ≤ w) × (w ≤ 4) × (x ≤ 511) × (y ≤ 511) × (c ≤ 511 + half) × (d ≤ 511 + half) × (at + 16 ≤ length (now out))
         × (p + h + 16 ≤ 48) × Low (now offsets) ⌝ }
     ensures { λ second. ⌜ PutAt (now (out .entry)) at (fed (drop p (now (offsets .entry))) (placed w x y c)) (now (out .exit))
         × (second ≡ fed (drop (p + h) (now (offsets .entry))) (placed w x y d)) ⌝ }
@@ -71,7 +72,7 @@ pub fn put(out: &mut [Part], at: usize, block: [Part; PLACES])
 // What the code of a layer adds to block q.
 fn co_phase(co: &[Part; 8], code: u16, q: u32) -> u16
     requires { ⌜ q < 8 ⌝ }
-    ensures { λ c. ⌜ (c ≡ coAt (now (co .entry)) code q) × (c ≤ 703) ⌝ }
+    ensures { λ c. ⌜ (c ≡ coAt (now (co .entry)) code q) × (c ≤ 511 + half) ⌝ }
 {
     let c = co[q as usize] % 512;
     code / 256 % 2 * c + (code >> q) % 2 * HALF

@@ -13,10 +13,10 @@ use Rattle.ground.proofs.copy_numbers.Statement.{statement}
 use Rattle.ground.proofs.copy_numbers.Tie as tie
 
 abbrev Inv-loop : tie.InvT-loop
-Inv-loop from n out₀ i₀ out i = (i ≤ n) × (out ≡ take i (take n from) ++ drop i out₀) × (length out ≡ length out₀)
+Inv-loop numbers n to₀ k₀ to k = (k ≤ n) × (to ≡ take k (take n numbers) ++ drop k to₀) × (length to ≡ length to₀)
 
 abbrev μ-loop : tie.MeasureT-loop
-μ-loop from n out₀ i₀ out i = n - i
+μ-loop numbers n to₀ k₀ to k = n - k
 
 loop-holds : tie.Need-loop-holds Inv-loop μ-loop
 loop-holds c = (omega arith, refl, refl)
@@ -25,9 +25,9 @@ loop-again : tie.Need-loop-again Inv-loop μ-loop
 loop-again c =
     let l = c .before .before .loop in
     let a = c .before .before .before .before .before .args in
-    let entry = sym (getD-take (a .n) (a .from .now) (l .i) 0 (c .before .loop-test .taken)) in (
+    let entry = sym (getD-take (a .n) (a .numbers .now) (l .k) 0 (c .before .loop-test .taken)) in (
       omega arith,
-      stored _ _ (a .n) (l .i) 0 (l .inv .1) entry (simp length-take (omega arith)) (omega arith) (omega arith),
+      stored _ _ (a .n) (l .k) 0 (l .inv .1) entry (simp length-take (omega arith)) (omega arith) (omega arith),
       simp length-set (l .inv .2),
     )
 
@@ -43,7 +43,7 @@ returns-3 c =
     let l = c .before .loop in
     record {
       fits = rw (le-leb _ _ (few .before .if1 .left), le-leb _ _ (few .if2 .left));
-      stands = stored-all _ _ (few .before .before .args .n) (l .i) (l .inv .1) (simp length-take (omega arith)) (omega arith);
+      stands = stored-all _ _ (few .before .before .args .n) (l .k) (l .inv .1) (simp length-take (omega arith)) (omega arith);
     }
 
 pub copy-numbers-spec : {M : Type 1} → statement M

@@ -3,7 +3,7 @@ use mathlib.Core.Path.{_≡_, sym, ap, _∙_, subst}
 use lib.IntN.{ℤ, pos, _-ℤ_}
 use mir.Syntax.{w16, w32}
 use mir.Val.{SFits, toZ, ofZ}
-use mir.Facts.{toZ-ofZ, sfits-toZ, sfits-widen, fits-lt, fits-lit}
+use mir.Facts.{toZ-ofZ, sfits-toZ, sfits-widen}
 use borrow.Author.Needs.{needs}
 use Rattle.lookup.proofs.Halves.{less-whole}
 use Rattle.lookup.proofs.signed.Statement.{statement}

@@ -1,5 +1,5 @@
 -- `weight_at` meets its contract: the halves of a pair are read as they were written.
-use mathlib.Core.Path.{_≡_, sym, ap, _∙_}
+use mathlib.Core.Path.{_≡_, ap, _∙_}
 use Prim.Native.Nat.{ℕ, _/_, _%_}
 use lib.IntN.{ℤ}
 use mir.Syntax.{w16}

@@ -9,7 +9,7 @@ use native.Mathlib.Omega.{arith}
 use denote.Ref.{now}
 use lib.ListN.{length, drop}
 use borrow.Author.Needs.{needs}
-use Rattle.plan.specs.Drawing.{height, drawn, drawable}
+use Rattle.plan.specs.Drawing.{height, drawable}
 use Rattle.writer.specs.Blocks.{DrawnIn}
 use Rattle.writer.proofs.Laid.{copied-last, put-back}
 use Rattle.writer.proofs.Drawn.{drawable-sizes, none-needed, some-needed}

@@ -1,12 +1,9 @@
 -- `needed` meets its contract: the code tests what the definition does, and no product of small sizes is large.
 use mathlib.Core.Path.{_≡_}
-use mathlib.Core.Bool.{Bool, true, false, _&&_}
-use Prim.Native.Nat.{ℕ, _*_, _≤_}
-use lib.Dec.{leb}
+use mathlib.Core.Bool.{true, false}
+use Prim.Native.Nat.{_*_}
 use mir.Facts.{fits-below}
 use borrow.Author.Tests.{not-true, not-false, le-leb, lt-leb}
-use Rattle.ground.proofs.Booleans.{and-nothing}
-use Rattle.writer.specs.Blocks.{small}
 use Rattle.writer.proofs.Numbers.{product-fits, Products, products}
 use Rattle.writer.proofs.Drawn.{five, five-sizes}
 use Rattle.writer.proofs.needed.Statement.{statement}

@@ -1,17 +1,16 @@
 -- `reduced` meets its contract: each turn stores one offset more, and what is not stored stays 0.
-use Prim.Native.Nat.{ℕ, _-_, _<_, _≤_}
+use Prim.Native.Nat.{ℕ, _-_, _≤_}
 use native.Mathlib.Nat.{le-antisymm}
 use native.Mathlib.Omega.{arith}
 use mathlib.Core.Path.{_≡_, subst}
-use mathlib.Core.Bool.{true, false}
 use denote.Ref.{now}
-use lib.Dec.{leb, lit≤}
+use lib.Dec.{leb}
 use lib.ListN.{length}
 use borrow.Author.Needs.{needs}
 use borrow.Author.Tests.{leb-true, leb-false}
 use Rattle.ground.specs.Cases.{_⇒_∣_}
 use Rattle.ground.proofs.Booleans.{either}
-use Rattle.writer.proofs.Numbers.{twice-fits, falls, next-within}
+use Rattle.writer.proofs.Numbers.{falls, next-within}
 use Rattle.writer.proofs.Offsets.{StoredTo, stored-none, stored-next, stored-all}
 use Rattle.writer.proofs.reduced.Statement.{statement}
 use Rattle.writer.proofs.reduced.Tie as tie

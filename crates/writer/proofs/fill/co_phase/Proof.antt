@@ -3,9 +3,7 @@ use mathlib.Core.Path.{refl}
 use Prim.Native.Nat.{ℕ, _+_, _*_, _/_, _%_, _≤_}
 use native.Mathlib.Nat.{le-trans, mul-le-mul}
 use native.Mathlib.Omega.{arith}
-use denote.Ref.{now}
 use lib.Dec.{lit≤}
-use lib.ListN.{getD}
 use mir.Facts.{fits-below, fits-lit, fits-lt}
 use Rattle.turn.specs.Phase.{half}
 use Rattle.plan.specs.Drawing.{coAt, takes}
@@ -17,7 +15,7 @@ use Rattle.writer.proofs.fill.co_phase.Tie as tie
 bit-of : (x y n : ℕ) → y ≤ n → x % 2 * y ≤ n
 bit-of x y n h = omega (arith, mul-le-mul {n₁ = x % 2} {n₂ = 1} (omega arith) h)
 
-sum-small : (x y : ℕ) → x ≤ 511 → x + y % 2 * half ≤ 703
+sum-small : (x y : ℕ) → x ≤ 511 → x + y % 2 * half ≤ 511 + half
 sum-small x y h = omega arith
 
 -- what is taken of it

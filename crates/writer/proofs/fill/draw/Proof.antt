@@ -2,15 +2,14 @@
 use mathlib.Core.Path.{_≡_, refl, _∙_}
 use mathlib.Core.List.{[], _++_, append-nil}
 use Prim.Native.Nat.{ℕ, _+_, _-_, _<_, _≤_}
-use native.Mathlib.Nat.{le-antisymm, mod-lt}
+use native.Mathlib.Nat.{le-antisymm}
 use native.Mathlib.Omega.{arith}
 use denote.Ref.{now}
-use lib.Dec.{lit<, lit≤}
-use lib.ListN.{length, take, drop, getD, replicate, length-set}
+use lib.Dec.{lit≤}
+use lib.ListN.{length, take, drop, replicate, length-set}
 use lib.Seq.{paste, paste-zero}
 use mir.Facts.{fits-below, fits-lit, fits-lt}
 use Rattle.ground.proofs.Written.{stored, stored-all, stored-at, stored-all-at}
-use Rattle.turn.specs.Phase.{turn}
 use Rattle.plan.specs.Offsets.{fed}
 use Rattle.writer.specs.Blocks.{placed}
 use Rattle.writer.proofs.Numbers.{twice-fits, falls, next-within, sixteen-within, sixteen-fits, sixteen-twice}
