@@ -1,14 +1,14 @@
--- `pair_at` gives the definition's pair in each case, which antt compares; and where no case holds, nine bits are past the
--- end of the table.
+-- `pair_at` gives the definition's pair in each case of a phase, which antt compares; every other number of nine bits is
+-- past the end of the table.
 use mathlib.Core.Path.{_≡_, sym, ap}
 use mathlib.Core.List.{zipWith}
-use Prim.Native.Nat.{ℕ, _%_}
+use Prim.Native.Nat.{ℕ, _≤_}
 use native.Mathlib.Nat.{le-trans}
 use lib.Dec.{lit≤}
 use lib.ListN.{List·getD-eq-default}
 use Rattle.weight.specs.Table.{firstQuarter, firstHalf, xs, ys, table, noWeight, entry}
 use Rattle.lookup.specs.Packed.{packed}
-use Rattle.lookup.proofs.Cases.{past}
+use Rattle.lookup.proofs.Cases.{past, one-from}
 use Rattle.lookup.proofs.pair_at.Statement.{statement}
 use Rattle.lookup.proofs.pair_at.Tie as tie
 
@@ -16,9 +16,22 @@ use Rattle.lookup.proofs.pair_at.Tie as tie
 at : {e key : ℕ} → e ≡ key → packed (entry key) ≡ packed (entry e)
 at k = ap (λ (e : ℕ). packed (entry e)) (sym k)
 
-none : tie.Need-returns-512
-unfolding packed table xs ys firstHalf firstQuarter zipWith
-none c = ap packed (sym (List·getD-eq-default table noWeight (le-trans (lit≤ tt) (past 511 (c .before .args .e % 512) (c .match .rest)))))
+-- past the end of the table there are zeros
+past-end : {e : ℕ} → 384 ≤ e → packed noWeight ≡ packed (entry e)
+unfolding table xs ys firstHalf firstQuarter zipWith
+past-end le = ap packed (sym (List·getD-eq-default table noWeight le))
+
+even : tie.Need-returns-385
+unfolding packed
+even c = past-end (one-from 384 63 _ (c .match .keys385))
+
+odd : tie.Need-returns-386
+unfolding packed
+odd c = past-end (le-trans (lit≤ tt) (one-from 385 62 _ (c .match .keys386)))
+
+none : tie.Need-returns-387
+unfolding packed
+none c = past-end (past 384 _ (c .match .rest .0 .0))
 
 pub pair-at-spec : {M : Type 1} → statement M
 unfolding packed table xs ys firstHalf firstQuarter zipWith
@@ -409,131 +422,6 @@ pair-at-spec =
     (λ c. at (c .match .keys382))
     (λ c. at (c .match .keys383))
     (λ c. at (c .match .keys384))
-    (λ c. at (c .match .keys385))
-    (λ c. at (c .match .keys386))
-    (λ c. at (c .match .keys387))
-    (λ c. at (c .match .keys388))
-    (λ c. at (c .match .keys389))
-    (λ c. at (c .match .keys390))
-    (λ c. at (c .match .keys391))
-    (λ c. at (c .match .keys392))
-    (λ c. at (c .match .keys393))
-    (λ c. at (c .match .keys394))
-    (λ c. at (c .match .keys395))
-    (λ c. at (c .match .keys396))
-    (λ c. at (c .match .keys397))
-    (λ c. at (c .match .keys398))
-    (λ c. at (c .match .keys399))
-    (λ c. at (c .match .keys400))
-    (λ c. at (c .match .keys401))
-    (λ c. at (c .match .keys402))
-    (λ c. at (c .match .keys403))
-    (λ c. at (c .match .keys404))
-    (λ c. at (c .match .keys405))
-    (λ c. at (c .match .keys406))
-    (λ c. at (c .match .keys407))
-    (λ c. at (c .match .keys408))
-    (λ c. at (c .match .keys409))
-    (λ c. at (c .match .keys410))
-    (λ c. at (c .match .keys411))
-    (λ c. at (c .match .keys412))
-    (λ c. at (c .match .keys413))
-    (λ c. at (c .match .keys414))
-    (λ c. at (c .match .keys415))
-    (λ c. at (c .match .keys416))
-    (λ c. at (c .match .keys417))
-    (λ c. at (c .match .keys418))
-    (λ c. at (c .match .keys419))
-    (λ c. at (c .match .keys420))
-    (λ c. at (c .match .keys421))
-    (λ c. at (c .match .keys422))
-    (λ c. at (c .match .keys423))
-    (λ c. at (c .match .keys424))
-    (λ c. at (c .match .keys425))
-    (λ c. at (c .match .keys426))
-    (λ c. at (c .match .keys427))
-    (λ c. at (c .match .keys428))
-    (λ c. at (c .match .keys429))
-    (λ c. at (c .match .keys430))
-    (λ c. at (c .match .keys431))
-    (λ c. at (c .match .keys432))
-    (λ c. at (c .match .keys433))
-    (λ c. at (c .match .keys434))
-    (λ c. at (c .match .keys435))
-    (λ c. at (c .match .keys436))
-    (λ c. at (c .match .keys437))
-    (λ c. at (c .match .keys438))
-    (λ c. at (c .match .keys439))
-    (λ c. at (c .match .keys440))
-    (λ c. at (c .match .keys441))
-    (λ c. at (c .match .keys442))
-    (λ c. at (c .match .keys443))
-    (λ c. at (c .match .keys444))
-    (λ c. at (c .match .keys445))
-    (λ c. at (c .match .keys446))
-    (λ c. at (c .match .keys447))
-    (λ c. at (c .match .keys448))
-    (λ c. at (c .match .keys449))
-    (λ c. at (c .match .keys450))
-    (λ c. at (c .match .keys451))
-    (λ c. at (c .match .keys452))
-    (λ c. at (c .match .keys453))
-    (λ c. at (c .match .keys454))
-    (λ c. at (c .match .keys455))
-    (λ c. at (c .match .keys456))
-    (λ c. at (c .match .keys457))
-    (λ c. at (c .match .keys458))
-    (λ c. at (c .match .keys459))
-    (λ c. at (c .match .keys460))
-    (λ c. at (c .match .keys461))
-    (λ c. at (c .match .keys462))
-    (λ c. at (c .match .keys463))
-    (λ c. at (c .match .keys464))
-    (λ c. at (c .match .keys465))
-    (λ c. at (c .match .keys466))
-    (λ c. at (c .match .keys467))
-    (λ c. at (c .match .keys468))
-    (λ c. at (c .match .keys469))
-    (λ c. at (c .match .keys470))
-    (λ c. at (c .match .keys471))
-    (λ c. at (c .match .keys472))
-    (λ c. at (c .match .keys473))
-    (λ c. at (c .match .keys474))
-    (λ c. at (c .match .keys475))
-    (λ c. at (c .match .keys476))
-    (λ c. at (c .match .keys477))
-    (λ c. at (c .match .keys478))
-    (λ c. at (c .match .keys479))
-    (λ c. at (c .match .keys480))
-    (λ c. at (c .match .keys481))
-    (λ c. at (c .match .keys482))
-    (λ c. at (c .match .keys483))
-    (λ c. at (c .match .keys484))
-    (λ c. at (c .match .keys485))
-    (λ c. at (c .match .keys486))
-    (λ c. at (c .match .keys487))
-    (λ c. at (c .match .keys488))
-    (λ c. at (c .match .keys489))
-    (λ c. at (c .match .keys490))
-    (λ c. at (c .match .keys491))
-    (λ c. at (c .match .keys492))
-    (λ c. at (c .match .keys493))
-    (λ c. at (c .match .keys494))
-    (λ c. at (c .match .keys495))
-    (λ c. at (c .match .keys496))
-    (λ c. at (c .match .keys497))
-    (λ c. at (c .match .keys498))
-    (λ c. at (c .match .keys499))
-    (λ c. at (c .match .keys500))
-    (λ c. at (c .match .keys501))
-    (λ c. at (c .match .keys502))
-    (λ c. at (c .match .keys503))
-    (λ c. at (c .match .keys504))
-    (λ c. at (c .match .keys505))
-    (λ c. at (c .match .keys506))
-    (λ c. at (c .match .keys507))
-    (λ c. at (c .match .keys508))
-    (λ c. at (c .match .keys509))
-    (λ c. at (c .match .keys510))
-    (λ c. at (c .match .keys511))
+    even
+    odd
     none)
