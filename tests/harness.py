@@ -21,8 +21,8 @@ Where nothing is said of the offsets they are the fixed list of the setting, and
 Of a codebook with very many reports only a part is sent into longer and shorter buffers and with such masks; its
 docstring says which.
 On a refusal the record's other numbers, l and m of its beams among them, are 0 and the buffer is as lent. Bytes around
-the buffer, the mask and the offsets, and the mask and the offsets, never change. No call of phases uses more than 1,024
-bytes of stack, no call of weights more than 2,048.
+the buffer, the mask and the offsets, and the mask and the offsets, never change. No call uses more than 1,280 bytes of
+stack.
 That mistakes with offsets are seen is itself tested: stand-ins that make one each (MISTAKES) answer what is sent, and
 must be found out at every setting.
 
@@ -146,17 +146,16 @@ def fixed_list(s):
 
 # ---- A codebook and its two functions --------------------------------------------------------------------------------
 
-# Its code in a request; a number of its buffer, by struct's letter; the numbers of an entry; the most bytes of stack it
-# may use.
-Function = collections.namedtuple('Function', 'name code letter parts most_stack')
+# Its code in a request; a number of its buffer, by struct's letter; the numbers of an entry.
+Function = collections.namedtuple('Function', 'name code letter parts')
 
-# How many functions batch.c knows.
-CODES = 4
+# How many functions batch.c knows, and the most bytes of stack that a call may use.
+CODES, MOST_STACK = 4, 1280
 
 
 def functions(prefix, code):
     """The two functions of a codebook, phases and weights."""
-    return Function(prefix + 'phases', code, 'H', 1, 1024), Function(prefix + 'weights', code + 1, 'h', 2, 2048)
+    return Function(prefix + 'phases', code, 'H', 1), Function(prefix + 'weights', code + 1, 'h', 2)
 
 
 def needed(function, s, v):
@@ -366,7 +365,7 @@ class Tests:
         # By the code of a function: how many requests are to be accepted or to have which refusal.
         self.expected = [collections.Counter() for _ in range(CODES)]
         self.deepest = [0] * CODES
-        self.stack = [self.begin(f'{function.name}: no call uses more than {function.most_stack:,} bytes of stack')
+        self.stack = [self.begin(f'{function.name}: no call uses more than {MOST_STACK:,} bytes of stack')
                       for function in book.functions]
         self.harness = self.begin('the harness answers every request and ends')
         self.clear()
@@ -456,7 +455,7 @@ class Tests:
     def report(self):
         for function, test in zip(self.book.functions, self.stack):
             deepest, expected = self.deepest[function.code], self.expected[function.code]
-            if not 0 < deepest <= function.most_stack:
+            if not 0 < deepest <= MOST_STACK:
                 self.fail(test, f'{deepest} bytes')
             refused = ', '.join(f'{number}: {expected[number]}' for number in self.book.order)
             print(f'{function.name}: {sum(expected.values())} requests, {expected[0]} to be accepted, '
