@@ -67,7 +67,7 @@ def expected():
 def in_source():
     """The pairs of the constants, and those of the comments beside them. A constant has y in its upper half."""
     text = (ROOT / "crates/lookup/src/lib.rt").read_text(encoding="utf8")
-    rows = re.findall(r"^ *(\d+) => 0x(\w{4})_(\w{4}), // (-?\d+), (-?\d+)$", text, re.M)
+    rows = re.findall(r"^ *(\d+) => return 0x(\w{4})_(\w{4}), // (-?\d+), (-?\d+)$", text, re.M)
     halves = [(int(e), [int(half, 16) for half in (x, y)]) for e, y, x, _, _ in rows]
     pairs = [tuple(n - 2**16 * (n >= 2**15) for n in pair) if e == k else None for k, (e, pair) in enumerate(halves)]
     return pairs, [(int(x), int(y)) for *_, x, y in rows]

@@ -7,5 +7,6 @@ pub mod Sums
 pub mod All
 pub mod First
 pub mod Written
+pub mod Copied
 pub mod Unique
 pub mod Examples

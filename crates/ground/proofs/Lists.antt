@@ -38,6 +38,12 @@ pub map-twice : {A B C : Type 0} (f : A → C) (g : B → C) (h : A → B) → (
 map-twice f g h e [] = refl
 map-twice f g h e (x ∷ xs) = λ i. e x i ∷ map-twice f g h e xs i
 
+-- what stands at a place within a list, whatever is read past its end
+pub at-within : {A : Type 0} (xs : List A) (i : ℕ) (x y : A) → i < length xs → getD xs i x ≡ getD xs i y
+at-within [] i x y h = absurd (not-suc-le-zero h)
+at-within (a ∷ xs) zero x y h = refl
+at-within (a ∷ xs) (suc i) x y h = at-within xs i x y (omega arith)
+
 -- to one and the same
 pub all-same : {A B : Type 0} (f : A → B) (b : B) (xs : List A) (x : A)
     → ((i : ℕ) → i < length xs → f (getD xs i x) ≡ b) → map f xs ≡ replicate (length xs) b

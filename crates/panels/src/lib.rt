@@ -28,16 +28,8 @@ fn judge(r: PanelReport, mask: &[u8], ranks: u8, offsets: &[Part], room: usize) 
     let codes = y.codes;
     let beams = y.beams;
     let drawing = layers::drawing_of(r, steps, co, codes);
-    Judged {
-        given: Record {
-            refusal: 0,
-            ports: r.ng * o.sizes.ports,
-            layers: r.v,
-            scale: x.entries,
-            beams: beams,
-        },
-        drawing: drawing,
-    }
+    let ports = r.ng * o.sizes.ports;
+    plan::accept(ports, r.v, x.entries, beams, drawing)
 }
 
 // Writes the phases of a report's precoder, in parts of a turn: layer after layer, each of P entries, panel by panel and

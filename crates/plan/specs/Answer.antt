@@ -8,6 +8,7 @@ use lib.IntN.{ℤ}
 use lib.ListN.{length, drop, replicate}
 use Rattle.ground.specs.Cases.{_⇒_∣_}
 use Rattle.ground.specs.First.{first, part}
+use Rattle.turn.specs.declared.Beam.{Beam}
 use Rattle.weight.specs.Table.{weight, numbers}
 use Rattle.plan.specs.declared.Record.{Record}
 use Rattle.plan.specs.declared.Drawing.{Drawing}
@@ -126,9 +127,14 @@ blank = record {
   codes = 0 ∷ 0 ∷ 0 ∷ 0 ∷ 0 ∷ 0 ∷ 0 ∷ 0 ∷ [];
 }
 
--- a report once it has been judged, by the number of its refusal
+-- a report that is refused by a number; one that is accepted, with P, v, the scale, the beams of its layers, and what is to
+-- be written; and one that has been judged, by the number of its refusal
 abbrev pub refusedBy : ℕ → Judged
 refusedBy k = record { given = refused k; drawing = blank }
+
+abbrev pub acceptedAs : ℕ → ℕ → ℕ → List Beam → Drawing → Judged
+acceptedAs p v scale beams s =
+    record { given = record { refusal = 0; ports = p; layers = v; scale = scale; beams = beams }; drawing = s }
 
 abbrev pub judgedBy : Record → Drawing → ℕ → Judged
 judgedBy accepted s zero = record { given = accepted; drawing = s }

@@ -1,6 +1,6 @@
 // What a precoder is made of, for any codebook, and what a call answers.
 ghost use mathlib.Core.Path.{_≡_};
-ghost use Rattle.plan.specs.Answer.{refusedBy};
+ghost use Rattle.plan.specs.Answer.{refusedBy, acceptedAs};
 use turn::Beam;
 use turn::Part;
 
@@ -65,5 +65,21 @@ pub fn refuse(number: u32) -> Judged
             co: [0; 8],
             codes: [0; 8],
         },
+    }
+}
+
+// A report that is accepted: its ports, layers, scale and beams, and what is to be written of it.
+pub fn accept(ports: u32, layers: u32, scale: u32, beams: [Beam; 8], drawing: Drawing) -> Judged
+    ensures { λ c. ⌜ c ≡ acceptedAs ports layers scale beams drawing ⌝ }
+{
+    Judged {
+        given: Record {
+            refusal: 0,
+            ports: ports,
+            layers: layers,
+            scale: scale,
+            beams: beams,
+        },
+        drawing: drawing,
     }
 }

@@ -15,7 +15,7 @@ pub fn phases(r: Report, mask: &[u8], ranks: u8, offsets: &[Part], out: &mut [Pa
     ensures { λ a. ⌜ PhasesLeft single r (now (mask .entry)) ranks (now (offsets .entry)) (now (out .entry)) a
         (now (out .exit)) ⌝ }
 {
-    let c = single::judge(r, mask, ranks, offsets, out.len());
+    let c = verdict::judge(r, mask, ranks, offsets, out.len());
     if c.given.refusal != 0 {
         return c.given;
     }
@@ -30,7 +30,7 @@ pub fn weights(r: Report, mask: &[u8], ranks: u8, offsets: &[Part], out: &mut [i
     ensures { λ a. ⌜ WeightsLeft single r (now (mask .entry)) ranks (now (offsets .entry)) (now (out .entry)) a
         (now (out .exit)) ⌝ }
 {
-    let c = single::judge(r, mask, ranks, offsets, out.len() / 2);
+    let c = verdict::judge(r, mask, ranks, offsets, out.len() / 2);
     if c.given.refusal != 0 {
         return c.given;
     }

@@ -1,27 +1,31 @@
--- The beams of a report's layers, each in its place: by rank, or one for all where beams have half their length.
+-- The beams of a report's layers, each in its place: by rank, or one for all where beams have half their length; and that the
+-- layers which the code gives are the report's.
 use mathlib.Core.Path.{_≡_, sym, ap, _∙_}
 use mathlib.Core.Bool.{true, false}
 use mathlib.Core.List.{List, map}
-use Prim.Native.Nat.{ℕ, _*_, _<_}
+use Prim.Native.Nat.{ℕ, _-_, _*_, _<_, _≤_}
 use native.Mathlib.Omega.{arith}
-use lib.ListN.{getD, take, replicate}
+use lib.Dec.{eqb}
+use lib.ListN.{getD, replicate}
+use borrow.Author.Tests.{eqb-true, eqb-false}
+use Rattle.ground.specs.Cases.{_⇒_∣_}
 use Rattle.ground.specs.Lists.{places}
-use Rattle.ground.proofs.Lists.{map-twice, all-same, places-same}
+use Rattle.ground.proofs.Booleans.{either}
+use Rattle.ground.proofs.Lists.{map-twice, at-within, all-same, places-same}
 use Rattle.turn.specs.declared.Beam.{Beam}
 use Rattle.settings.specs.Ranges.{beam}
 use Rattle.report.specs.declared.Report.{Report}
 use Rattle.report.specs.declared.Beams.{Beams}
 use Rattle.report.specs.Rules.{InRange}
 use Rattle.report.specs.Beams.{isHalf, beams, said}
+use Rattle.report.proofs.InRange.{v-few}
 use Rattle.report.proofs.Reached.{four-at, two-ports-beam}
-use Rattle.plan.specs.declared.Lineup.{Lineup}
 use Rattle.plan.specs.Plan.{past, pairOf, noBeam, named}
-use Rattle.single.specs.Columns.{Name, B, B′, B″, B‴, Bracket, place}
-use Rattle.single.specs.Plan.{whole, quartered, layers, plan}
-use Rattle.single.specs.Drawing.{codesOf, halfCodes, lineupOf}
-use Rattle.single.proofs.Layers.{brackets, halves, layerBeam, length-layers, layer-is}
+use Rattle.single.specs.Columns.{Name, B, B′, B″, B‴, byRank, place}
+use Rattle.single.specs.Plan.{whole, layers, plan}
+use Rattle.single.specs.Drawing.{codesOf, halfCodes, ranked, wholeLineup, halfLineup, lineupOf}
+use Rattle.single.proofs.Layers.{halved, brackets, layerBeam, length-layers, layer-is}
 use Rattle.single.proofs.Neighbours.{half-beam}
-use Rattle.single.proofs.Given.{at}
 
 -- ---- layers that all have one beam
 
@@ -42,49 +46,45 @@ module _ (r : Report) (h : InRange r) where
   two-ports-named two =
       ap (places 8 noBeam) (one-for-all _ (λ j k. two-ports-beam r h two _)) ∙ places-same 8 (r .v) noBeam
 
--- ---- the layers by rank
+-- ---- the layers that are given
 
-module _ (r : Report) {b : Beams} (e : b ≡ said r 0) where
+-- a rank of eight at most has its own columns
+ranked-own : (v : ℕ) → v ≤ 8 → ranked v ≡ brackets v
+unfolding ranked byRank
+ranked-own v few = at-within byRank (v - 1) _ _ (omega arith)
+
+module _ (r : Report) (h : InRange r) {b : Beams} (e : b ≡ said r 0) where
   -- the beam at a place, by the numbers that are handed over
-  abbrev pub told : ℕ → Beam
-  told i = record { l = getD (b .l) i 0; m = getD (b .m) i 0 }
+  abbrev told : ℕ → Beam
+  told i = beam (getD (b .l) i 0) (getD (b .m) i 0)
 
-  told-is : (i : ℕ) → i < 4 → told i ≡ at r i
+  told-is : (i : ℕ) → i < 4 → told i ≡ getD (beams r) i (beam 0 0)
   told-is i few = rw (e, four-at (λ x. x .l) (beams r) i few, four-at (λ x. x .m) (beams r) i few)
 
-  by-name : (x : Name) → told (place x) ≡ at r (place x)
+  by-name : (x : Name) → told (place x) ≡ getD (beams r) (place x) (beam 0 0)
   by-name B = told-is 0 (omega arith)
   by-name B′ = told-is 1 (omega arith)
   by-name B″ = told-is 2 (omega arith)
   by-name B‴ = told-is 3 (omega arith)
 
   -- whole beams: that of each bracket of the rank
-  abbrev beamsIn : List Bracket → List Beam
-  beamsIn cs = map (λ c. told (place (c .beam))) cs
-
-  abbrev pub wholeLineup : ℕ → Lineup
-  wholeLineup v = record { codes = codesOf v; beams = places 8 noBeam (beamsIn (brackets v)) }
-
-  beams-same : (cs : List Bracket) → beamsIn cs ≡ map pairOf (map (whole r) cs)
-  unfolding whole
-  beams-same = map-twice _ pairOf (whole r) (λ c. by-name (c .beam))
-
-  pub whole-lineup : isHalf r ≡ false → (n : ℕ) → r .v ≡ n → wholeLineup n ≡ lineupOf r
-  unfolding named layers
-  whole-lineup w n q =
-      ap wholeLineup (sym q)
-      ∙ rw w (λ i. record { codes = codesOf (r .v); beams = places 8 noBeam (beams-same (brackets (r .v)) i) })
+  pub whole-lineup : isHalf r ≡ false → wholeLineup (r .v) (b .l) (b .m) ≡ lineupOf r
+  unfolding named layers codesOf whole
+  whole-lineup w =
+      rw (ranked-own (r .v) (v-few r h), w)
+      (λ i. record {
+        codes = codesOf (r .v);
+        beams = places 8 noBeam (map-twice _ pairOf (whole r) (λ c. by-name (c .beam)) (brackets (r .v)) i);
+      })
 
   -- half-length beams: B for each of three layers or four
-  abbrev pub halfLineup : ℕ → Lineup
-  halfLineup v = record { codes = halfCodes; beams = places 8 noBeam (map (λ co. told 0) (take v (halves r))) }
+  three-or-four : isHalf r ≡ true → (eqb (r .v) 3 ⇒ 3 ∣ 4) ≡ r .v
+  three-or-four half =
+      let (most, ports, least) = halved r half in
+      either (eqb (r .v) 3) (λ t. rw t (sym (eqb-true (r .v) 3 t))) (λ f. rw f (omega (arith, eqb-false (r .v) 3 f)))
 
-  one-beam : (cos : List (List ℕ)) → map (λ co. told 0) cos ≡ map pairOf (map (quartered r) cos)
-  unfolding quartered
-  one-beam = map-twice _ pairOf (quartered r) (λ co. told-is 0 (omega arith))
-
-  pub half-lineup : isHalf r ≡ true → (n : ℕ) → r .v ≡ n → halfLineup n ≡ lineupOf r
-  unfolding named layers
-  half-lineup h n q =
-      ap halfLineup (sym q)
-      ∙ rw h (λ i. record { codes = halfCodes; beams = places 8 noBeam (one-beam (take (r .v) (halves r)) i) })
+  pub half-lineup : isHalf r ≡ true → halfLineup (r .v) (told 0) ≡ lineupOf r
+  unfolding named
+  half-lineup half =
+      let all = one-for-all r h (told 0) (λ j k. rw half (sym (told-is 0 (omega arith)))) in
+      rw (three-or-four half, half) (λ i. record { codes = halfCodes; beams = places 8 noBeam (sym all i) })

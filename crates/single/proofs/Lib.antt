@@ -7,7 +7,4 @@ pub mod Sound
 pub mod Lawful
 pub mod InPlace
 pub mod Drawn
-pub mod Given
-pub mod Asked
-pub mod Judged
 pub mod Unique

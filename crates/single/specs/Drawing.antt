@@ -1,18 +1,19 @@
 -- What the writer is handed of a report.
 use mathlib.Core.List.{List, [], _∷_, map}
 use Prim.Native.Nat.{ℕ, _+_, _*_, _-_, _/_}
-use lib.ListN.{getD}
+use lib.Dec.{eqb}
+use lib.ListN.{getD, replicate}
 use Rattle.ground.specs.Cases.{_⇒_∣_}
 use Rattle.ground.specs.Lists.{places}
 use Rattle.turn.specs.declared.Beam.{Beam}
 use Rattle.turn.specs.Phase.{turn, phase}
 use Rattle.settings.specs.Settings.{across, down}
+use Rattle.settings.specs.Ranges.{beam}
 use Rattle.report.specs.declared.Report.{Report}
 use Rattle.report.specs.Beams.{isHalf, beams, four}
 use Rattle.plan.specs.declared.Drawing.{Drawing}
 use Rattle.plan.specs.declared.Lineup.{Lineup}
-use Rattle.plan.specs.declared.Judged.{Judged}
-use Rattle.plan.specs.Plan.{named}
+use Rattle.plan.specs.Plan.{noBeam, named}
 use Rattle.single.specs.Columns.{Added, o, ½, f, f+½, Bracket, byRank, place}
 use Rattle.single.specs.Plan.{fOf, tOf, blocks, rows, plan}
 
@@ -33,6 +34,21 @@ codesOf v = places 8 0 (map codeOf (getD byRank (v - 1) []))
 -- those of half-length beams: half a turn is added to quarters 2 and 4, 3 and 4, 2 and 3
 abbrev pub halfCodes : List ℕ
 halfCodes = 256 ∷ 266 ∷ 268 ∷ 262 ∷ 0 ∷ 0 ∷ 0 ∷ 0 ∷ []
+
+-- the layers of a rank whose whole beams are given, by l and m of B, B', B'' and B''': their codes, and their beams. The
+-- columns of a rank above eight are those of eight.
+unfoldable pub ranked : ℕ → List Bracket
+ranked v = getD byRank (v - 1) (getD byRank 7 [])
+
+abbrev pub wholeLineup : ℕ → List ℕ → List ℕ → Lineup
+wholeLineup v l m = record {
+  codes = places 8 0 (map codeOf (ranked v));
+  beams = places 8 noBeam (map (λ c. beam (getD l (place (c .beam)) 0) (getD m (place (c .beam)) 0)) (ranked v));
+}
+
+-- those of a half-length beam: three, or of any other rank four
+abbrev pub halfLineup : ℕ → Beam → Lineup
+halfLineup v x = record { codes = halfCodes; beams = places 8 noBeam (replicate (eqb v 3 ⇒ 3 ∣ 4) x) }
 
 -- the layers of a report: their codes, and their beams
 abbrev pub lineupOf : Report → Lineup
@@ -58,8 +74,3 @@ drawingOf r = record {
   co = coPhases r;
   codes = lineupOf r .codes;
 }
-
--- a report that is accepted: P, v, the scale and the beams of its layers, and what is to be written
-abbrev pub acceptedAs : ℕ → ℕ → ℕ → List Beam → Drawing → Judged
-acceptedAs p v scale beams s =
-    record { given = record { refusal = 0; ports = p; layers = v; scale = scale; beams = beams }; drawing = s }

@@ -1,34 +1,14 @@
-// The Type I single-panel codebook: a report is judged, and what is to be written of it is given.
-use masks::Needs;
-use plan::Drawing;
-use plan::Judged;
+// The Type I single-panel codebook: its definitions, and the layers of a rank.
 use plan::Lineup;
-use plan::Record;
-use report::Beams;
-use report::Report;
 use turn::Beam;
-use turn::Part;
-use turn::Phase;
 ghost use mathlib.Core.Path.{_≡_};
-ghost use mathlib.Core.Bool.{false};
-ghost use Prim.Native.Nat.{_+_, _*_, _≤_};
-ghost use Rattle.masks.specs.Asks.{Asks};
-ghost use Rattle.plan.specs.Answer.{planned, asked, refusal, judgedBy};
-ghost use Rattle.report.specs.Rules.{InRange};
-ghost use Rattle.report.specs.Beams.{beams, four, said, beamsOf};
-ghost use Rattle.single.specs.Plan.{plan};
-ghost use Rattle.single.specs.Masks.{twoPortBit};
-ghost use Rattle.single.specs.Single.{indices, single};
-ghost use Rattle.single.specs.Drawing.{lineupOf, stepOf, drawingOf, acceptedAs};
-
-mod half;
-mod two;
+ghost use Rattle.single.specs.Drawing.{wholeLineup, halfLineup};
 
 // The codes of one to eight layers of whole beams: 512 times the place of a beam, 0 to 3 for B, B', B'', B'''; 256 more where
 // f is added to the second polarisation, and 2 more where half a turn is.
-const ONE: [u16; 8] = [256, 0, 0, 0, 0, 0, 0, 0]; // [B; f]
+pub const ONE: [u16; 8] = [256, 0, 0, 0, 0, 0, 0, 0]; // [B; f]
 
-const TWO: [u16; 8] = [256, 770, 0, 0, 0, 0, 0, 0]; // [B; f], [B'; f+½]
+pub const TWO: [u16; 8] = [256, 770, 0, 0, 0, 0, 0, 0]; // [B; f], [B'; f+½]
 
 const THREE: [u16; 8] = [256, 768, 258, 0, 0, 0, 0, 0]; // [B; f], [B'; f], [B; f+½]
 
@@ -42,56 +22,55 @@ const SEVEN: [u16; 8] = [256, 258, 768, 1024, 1026, 1536, 1538, 0]; // .., [B'; 
 
 const EIGHT: [u16; 8] = [256, 258, 768, 770, 1024, 1026, 1536, 1538]; // the same, with [B'; f+½] after [B'; f]
 
-// The layers of a report with whole beams: a, b, c and d are B, B', B'' and B'''.
-fn layers_of(r: Report, s: Beams) -> Lineup
-    requires { ⌜ InRange r × (s ≡ said r 0) × (s .half ≡ false) ⌝ }
-    ensures { λ y. ⌜ y ≡ lineupOf r ⌝ }
+// Those of a half-length beam: half a turn is added to quarters 2 and 4, 3 and 4, 2 and 3.
+const HALVES: [u16; 8] = [256, 266, 268, 262, 0, 0, 0, 0];
+
+// The layers of a rank with whole beams: l and m are those of B, B', B'' and B'''. A rank above eight has those of eight.
+pub fn of_whole_beams(v: u32, l: [u32; 4], m: [u32; 4]) -> Lineup
+    ensures { λ y. ⌜ y ≡ wholeLineup v l m ⌝ }
 {
-    let rank = r.v;
-    let l = s.l;
-    let m = s.m;
     let none = Beam { l: 0, m: 0 };
     let a = Beam { l: l[0], m: m[0] };
-    if rank == 1 {
+    if v <= 1 {
         return Lineup {
             codes: ONE,
             beams: [a, none, none, none, none, none, none, none],
         };
     }
     let b = Beam { l: l[1], m: m[1] };
-    if rank == 2 {
+    if v == 2 {
         return Lineup {
             codes: TWO,
             beams: [a, b, none, none, none, none, none, none],
         };
     }
-    if rank == 3 {
+    if v == 3 {
         return Lineup {
             codes: THREE,
             beams: [a, b, a, none, none, none, none, none],
         };
     }
-    if rank == 4 {
+    if v == 4 {
         return Lineup {
             codes: FOUR,
             beams: [a, b, a, b, none, none, none, none],
         };
     }
     let c = Beam { l: l[2], m: m[2] };
-    if rank == 5 {
+    if v == 5 {
         return Lineup {
             codes: FIVE,
             beams: [a, a, b, b, c, none, none, none],
         };
     }
-    if rank == 6 {
+    if v == 6 {
         return Lineup {
             codes: SIX,
             beams: [a, a, b, b, c, c, none, none],
         };
     }
     let d = Beam { l: l[3], m: m[3] };
-    if rank == 7 {
+    if v == 7 {
         return Lineup {
             codes: SEVEN,
             beams: [a, a, b, c, c, d, d, none],
@@ -103,145 +82,19 @@ fn layers_of(r: Report, s: Beams) -> Lineup
     }
 }
 
-// The steps of the beam (l,m), x + 512·y, where (1,0) has the step px and (0,1) the step py.
-fn step_of(l: u32, m: u32, px: u32, py: u32) -> u32
-    requires { ⌜ (l ≤ 255) × (m ≤ 255) × (px ≤ 511) × (py ≤ 511) ⌝ }
-    ensures { λ s. ⌜ s ≡ l * px + 512 * (m * py) ⌝ }
+// The layers of a half-length beam, which all have it: three, and four of any other rank.
+pub fn of_half_length_beam(v: u32, a: Beam) -> Lineup
+    ensures { λ y. ⌜ y ≡ halfLineup v a ⌝ }
 {
-    l * px + 512 * (m * py)
-}
-
-// The steps of the beams. Many reports have one beam.
-fn steps_of(r: Report, b: Beams) -> [u32; 4]
-    requires { ⌜ InRange r × (b ≡ said r 0) ⌝ }
-    ensures { λ s. ⌜ s ≡ four (stepOf r) (beams r) ⌝ }
-{
-    let px = turn::TURN as u32 / b.across;
-    let py = turn::TURN as u32 / b.down;
-    let l = b.l;
-    let m = b.m;
-    let first = step_of(l[0], m[0], px, py);
-    if b.count == 1 {
-        return [first, 0, 0, 0];
-    }
-    let second = step_of(l[1], m[1], px, py);
-    let third = step_of(l[2], m[2], px, py);
-    let fourth = step_of(l[3], m[3], px, py);
-    [first, second, third, fourth]
-}
-
-// What is to be written of a report with whole beams.
-fn drawing_of(r: Report, b: Beams, codes: [u16; 8]) -> Drawing
-    requires { ⌜ InRange r × (b ≡ said r 0) × (b .half ≡ false) × (codes ≡ lineupOf r .codes) ⌝ }
-    ensures { λ s. ⌜ s ≡ drawingOf r ⌝ }
-{
-    let v = r.v;
-    let f = Phase::quarters(b.n);
-    let steps = steps_of(r, b);
-    Drawing {
-        v: v,
-        pairs: 1,
-        rows: r.n1,
-        columns: r.n2,
-        steps: steps,
-        co: [0, f.parts, 0, 0, 0, 0, 0, 0],
-        codes: codes,
-    }
-}
-
-// The bit of the two-port codebook.
-fn two_port_bit(r: Report) -> u32
-    requires { ⌜ r .i2 ≤ 3 ⌝ }
-    ensures { λ k. ⌜ k ≡ twoPortBit r ⌝ }
-{
-    if r.v == 1 { r.i2 } else { 4 + r.i2 }
-}
-
-// What a report that has no half-length beams needs of the masks and the buffer. Two ports have one bit.
-fn needs_of(r: Report, b: Beams) -> Needs
-    requires { ⌜ (b ≡ beamsOf r) × (b .half ≡ false) ⌝ }
-    ensures { λ x. ⌜ Asks single r indices x ⌝ }
-{
-    if b.refusal != 0 {
-        return Needs {
-            refusal: b.refusal,
-            bytes: b.bytes,
-            v: r.v,
-            ports: 0,
-            entries: 0,
-            count: 0,
-            width: 0,
-            l: [0; 4],
-            m: [0; 4],
+    let none = Beam { l: 0, m: 0 };
+    if v == 3 {
+        return Lineup {
+            codes: HALVES,
+            beams: [a, a, a, none, none, none, none, none],
         };
     }
-    let ports = b.ports;
-    let entries = r.v * ports;
-    if r.n1 == 1 {
-        let bit = two_port_bit(r);
-        return Needs {
-            refusal: 0,
-            bytes: b.bytes,
-            v: r.v,
-            ports: ports,
-            entries: entries,
-            count: 1,
-            width: 0,
-            l: [0; 4],
-            m: [bit, 0, 0, 0],
-        };
+    Lineup {
+        codes: HALVES,
+        beams: [a, a, a, a, none, none, none, none],
     }
-    let l = b.l;
-    let m = b.m;
-    Needs {
-        refusal: 0,
-        bytes: b.bytes,
-        v: r.v,
-        ports: ports,
-        entries: entries,
-        count: b.count,
-        width: b.down,
-        l: l,
-        m: m,
-    }
-}
-
-// A report that is accepted, and what is to be written of it.
-fn accepted(r: Report, b: Beams, entries: u32, beams: [Beam; 8], drawing: Drawing) -> Judged
-    ensures { λ c. ⌜ c ≡ acceptedAs (b .ports) (r .v) entries beams drawing ⌝ }
-{
-    Judged {
-        given: Record {
-            refusal: 0,
-            ports: b.ports,
-            layers: r.v,
-            scale: entries,
-            beams: beams,
-        },
-        drawing: drawing,
-    }
-}
-
-// Judges a report by the refusals 1 to 11 and 13: the first that applies is given, and otherwise what is to be written.
-// `room` is the number of entries for which the lent buffer has room.
-pub fn judge(r: Report, mask: &[u8], ranks: u8, offsets: &[Part], room: usize) -> Judged
-    ensures { λ c. ⌜ c ≡ judgedBy (planned (plan r)) (drawingOf r) (refusal single (asked r (now (mask .entry)) ranks (now (offsets .entry)) room)) ⌝ }
-{
-    let b = report::beams_of(r);
-    if b.half {
-        return half::judge(r, b, mask, ranks, offsets, room);
-    }
-    let x = needs_of(r, b);
-    let k = masks::admit(x, mask, ranks, offsets, room);
-    if k != 0 {
-        return plan::refuse(k);
-    }
-    if r.n1 == 1 {
-        return two::accepted(r, b, x.entries);
-    }
-    let y = layers_of(r, b);
-    let codes = y.codes;
-    let beams = y.beams;
-    let drawing = drawing_of(r, b, codes);
-    accepted(r, b, x.entries, beams, drawing)
 }

@@ -1,49 +1,26 @@
--- `copy` meets its contract: each turn stores one byte more.
-use mathlib.Core.Path.{_≡_, refl, sym}
-use mathlib.Core.List.{_++_}
-use Prim.Native.Nat.{_-_, _≤_}
+-- `copy` meets its contract: each turn copies one byte more.
 use native.Mathlib.Omega.{arith}
-use lib.ListN.{length, take, drop, length-set, length-take}
-use lib.Seq.{getD-take}
-use borrow.Author.Tests.{le-leb, lt-leb}
-use Rattle.ground.proofs.Booleans.{and-nothing}
-use Rattle.ground.proofs.Written.{stored, stored-all}
+use Prim.Native.Nat.{_-_}
+use Rattle.ground.proofs.Copied.{CopiedTo, copied-none, too-few, no-room, copied-next, copied-all}
 use Rattle.ground.proofs.copy.Statement.{statement}
 use Rattle.ground.proofs.copy.Tie as tie
 
 abbrev Inv-loop : tie.InvT-loop
-Inv-loop from n out₀ i₀ out i = (i ≤ n) × (out ≡ take i (take n from) ++ drop i out₀) × (length out ≡ length out₀)
+Inv-loop from n out₀ i₀ out i = CopiedTo from n out₀ i out
 
 abbrev μ-loop : tie.MeasureT-loop
 μ-loop from n out₀ i₀ out i = n - i
 
-loop-holds : tie.Need-loop-holds Inv-loop μ-loop
-loop-holds c = (omega arith, refl, refl)
-
 loop-again : tie.Need-loop-again Inv-loop μ-loop
 loop-again c =
-    let l = c .before .before .loop in
-    let a = c .before .before .before .before .before .args in
-    let entry = sym (getD-take (a .n) (a .from .now) (l .i) 0 (c .before .loop-test .taken)) in (
-      omega arith,
-      stored _ _ (a .n) (l .i) 0 (l .inv .1) entry (simp length-take (omega arith)) (omega arith) (omega arith),
-      simp length-set (l .inv .2),
-    )
-
-returns : tie.Need-returns Inv-loop μ-loop
-returns c = record { fits = rw (lt-leb _ _ (c .if1 .taken)); stands = refl }
-
-returns-2 : tie.Need-returns-2 Inv-loop μ-loop
-returns-2 c = record { fits = rw (lt-leb _ _ (c .if2 .taken), and-nothing); stands = refl }
+    let t = c .before in
+    let few = t .before .before in
+    copied-next _ _ _ (few .before .if1 .left) (few .if2 .left) 0 (t .before .loop .inv) (t .loop-test .taken)
 
 returns-3 : tie.Need-returns-3 Inv-loop μ-loop
 returns-3 c =
     let few = c .before .before in
-    let l = c .before .loop in
-    record {
-      fits = rw (le-leb _ _ (few .before .if1 .left), le-leb _ _ (few .if2 .left));
-      stands = stored-all _ _ (few .before .before .args .n) (l .i) (l .inv .1) (simp length-take (omega arith)) (omega arith);
-    }
+    copied-all _ _ _ (few .before .if1 .left) (few .if2 .left) (c .before .loop .inv) (c .loop-test .left)
 
 pub copy-spec : {M : Type 1} → statement M
 copy-spec =
@@ -51,13 +28,13 @@ copy-spec =
     (tie.spec
     Inv-loop
     μ-loop
-    returns
-    returns-2
-    loop-holds
+    (λ c. too-few _ _ _ (c .if1 .taken))
+    (λ c. no-room _ _ _ (c .if2 .taken))
+    (λ c. copied-none _ _ _)
     (λ c. omega arith)
     (λ c. omega arith)
     (λ c. omega arith)
     (λ c. omega arith)
     loop-again
-    (λ c. c .before .loop .inv .2)
+    (λ c. c .before .loop .inv .long)
     returns-3)

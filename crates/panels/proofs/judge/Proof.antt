@@ -11,7 +11,7 @@ use denote.Ref.{now}
 use Rattle.settings.specs.Settings.{sizesOf}
 use Rattle.plan.specs.declared.Lineup.{Lineup}
 use Rattle.plan.specs.Plan.{named}
-use Rattle.plan.specs.Answer.{asked, refusal}
+use Rattle.plan.specs.Answer.{asked, refusal, acceptedAs}
 use Rattle.plan.proofs.Answers.{refused-judged}
 use Rattle.plan.proofs.Accepted.{accepted-in-range}
 use Rattle.masks.specs.declared.Needs.{Needs}
@@ -114,30 +114,22 @@ drawing-is c =
     c .drawing-of .ensures
     ∙ (λ i. drawnWith r (steps .steps-of .ensures i) (steps .before .co-of .ensures i) (y .layers-of .ensures i .codes))
 
-mul-t17 : tie.Need-mul-t17
-mul-t17 c =
+ports-fit : tie.Need-mul-ports
+ports-fit c =
     let e = accepted (layers (c .before .before)) in
     omega (arith, ports-few _ (sizes (e .before .before .before)) (in-range e))
 
 returns-2 : tie.Need-returns-2
 returns-2 c =
-    let drawn = c .before .before in
+    let drawn = c .before .before .before in
     let y = layers drawn in
     let e = accepted y in
     let needs = e .before .before in
     let ports = ports-are _ (sizes (needs .before)) (in-range e) in
     let entries = needs .needs-of .ensures .0 .entries-are (own-zero e) in
-    rw (sym (number (e .before)) ∙ e .if1 .left)
-    (λ i. record {
-      given = record {
-        refusal = 0;
-        ports = ports i;
-        layers = start (e .before) .args .r .v;
-        scale = entries i;
-        beams = beams-are y i;
-      };
-      drawing = drawing-is drawn i;
-    })
+    c .accept .ensures
+    ∙ rw (sym (number (e .before)) ∙ e .if1 .left)
+    (λ i. acceptedAs (ports i) (start (e .before) .args .r .v) (entries i) (beams-are y i) (drawing-is drawn i))
 
 pub judge-spec : {M : Type 1} → statement M
 judge-spec =
@@ -152,5 +144,6 @@ judge-spec =
     steps-of-requires
     layers-of-requires
     (λ c κs. search needs)
-    mul-t17
+    ports-fit
+    (λ c κs. search needs)
     returns-2)
