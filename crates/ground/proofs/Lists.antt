@@ -7,7 +7,7 @@ use Prim.Native.Nat.{ℕ, zero, suc, _+_, _-_, _*_, _<_, _≤_}
 use native.Mathlib.Nat.{zero-mul, not-suc-le-zero, le-of-suc-le-suc}
 use native.Mathlib.Omega.{arith}
 use lib.Dec.{T, T-not, eqb, eqb-refl}
-use lib.ListN.{length, getD, take, drop, replicate, length-append}
+use lib.ListN.{length, getD, take, drop, set, replicate, length-append}
 use lib.Seq.{getD-take, getD-drop, take-at, drop-append-add}
 use Rattle.ground.specs.Lists.{join, places, some, each, among, Member, member-first, member-further}
 use Rattle.ground.specs.Lists.{NoRepeats, once-nil, once-cons}
@@ -74,6 +74,31 @@ places-append zero x (y ∷ ys) h = absurd (not-suc-le-zero h)
 places-append (suc n) x (y ∷ ys) h =
     let e : n - length ys ≡ suc n - suc (length ys) = omega arith in
     ap (λ xs. y ∷ xs) (places-append n x ys (le-of-suc-le-suc h)) ∙ ap (λ (k : ℕ). y ∷ (ys ++ replicate k x)) e
+
+pub length-places : {A : Type 0} (n : ℕ) (x : A) (ys : List A) → length (places n x ys) ≡ n
+unfolding places
+length-places zero x ys = refl
+length-places (suc n) x [] = ap suc (length-places n x [])
+length-places (suc n) x (y ∷ ys) = ap suc (length-places n x ys)
+
+-- an element, and x past the last
+pub places-at : {A : Type 0} (n : ℕ) (x : A) (ys : List A) (i : ℕ) → i < n → getD (places n x ys) i x ≡ getD ys i x
+unfolding places
+places-at zero x ys i h = absurd (not-suc-le-zero h)
+places-at (suc n) x [] zero h = refl
+places-at (suc n) x [] (suc i) h = places-at n x [] i (le-of-suc-le-suc h)
+places-at (suc n) x (y ∷ ys) zero h = refl
+places-at (suc n) x (y ∷ ys) (suc i) h = places-at n x ys i (le-of-suc-le-suc h)
+
+-- one element more is put into its place
+pub places-next : {A : Type 0} (n : ℕ) (x : A) (ys : List A) (i : ℕ) → i < length ys → i < n
+    → set (places n x (take i ys)) i (getD ys i x) ≡ places n x (take (suc i) ys)
+unfolding places
+places-next n x [] i h k = absurd (not-suc-le-zero h)
+places-next zero x (y ∷ ys) i h k = absurd (not-suc-le-zero k)
+places-next (suc n) x (y ∷ ys) zero h k = refl
+places-next (suc n) x (y ∷ ys) (suc i) h k =
+    ap (λ xs. y ∷ xs) (places-next n x ys i (le-of-suc-le-suc h) (le-of-suc-le-suc k))
 
 -- ---- tests over a list
 

@@ -9,8 +9,8 @@ use lib.ListN.{length}
 use borrow.Author.Tests.{eq-eqb, ne-eqb}
 use Rattle.ground.specs.Cases.{_⇒_∣_}
 use Rattle.ground.proofs.Booleans.{either}
+use Rattle.offsets.specs.Offsets.{unfit}
 use Rattle.plan.specs.Masks.{barred, rankBarred}
-use Rattle.plan.specs.Offsets.{unfit}
 use Rattle.masks.specs.declared.Needs.{Needs}
 use Rattle.masks.specs.Admitted.{bitsOf, beforeBits, upToFirst, admitted}
 use Rattle.masks.proofs.Bits.{zeroAt, zeroFrom, from-first}

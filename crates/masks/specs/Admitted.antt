@@ -5,8 +5,8 @@ use Prim.Native.Nat.{ℕ, _+_, _*_}
 use lib.Dec.{eqb, ltb}
 use lib.ListN.{length, getD, take, drop}
 use Rattle.ground.specs.Cases.{_⇒_∣_}
+use Rattle.offsets.specs.Offsets.{unfit}
 use Rattle.plan.specs.Masks.{isZero, barred, rankBarred}
-use Rattle.plan.specs.Offsets.{unfit}
 use Rattle.masks.specs.declared.Needs.{Needs}
 
 -- the bits of one to four beams, in a mask of so many bits for each l

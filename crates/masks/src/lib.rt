@@ -5,8 +5,8 @@ ghost use Prim.Native.Nat.{_+_, _*_, _≤_};
 ghost use lib.Dec.{ltb};
 ghost use lib.ListN.{drop};
 ghost use Rattle.ground.specs.Cases.{_⇒_∣_};
+ghost use Rattle.offsets.specs.Offsets.{unfit};
 ghost use Rattle.plan.specs.Masks.{isZero, barred, rankBarred};
-ghost use Rattle.plan.specs.Offsets.{unfit};
 ghost use Rattle.masks.specs.Admitted.{bitsOf, beforeBits, upToFirst, admitted, upToTwo, ofThree};
 
 // What a report asks for: the first of its codebook's own refusals that applies, or 0; the bytes of the beam mask; its
@@ -70,31 +70,11 @@ fn rank_barred(ranks: u8, v: u32) -> bool
     (ranks as u32 >> (v - 1)) % 2 == 0
 }
 
-// Whether offsets are refused: they are not one for each port, or one of them is a turn or more.
-fn is_unfit(ports: u32, offsets: &[Part]) -> bool
-    ensures { λ t. ⌜ t ≡ unfit ports (now (offsets .entry)) ⌝ }
-{
-    let n = offsets.len();
-    if n != ports as usize {
-        return true;
-    }
-    let mut largest = 0;
-    let mut i = 0;
-    while i < n {
-        let o = offsets[i];
-        if largest < o {
-            largest = o;
-        }
-        i += 1;
-    }
-    turn::TURN <= largest
-}
-
 // 13 where the offsets are refused, 11 where there is no room for the entries, and else 0.
 fn last_of(ports: u32, offsets: &[Part], entries: u32, room: usize) -> u32
     ensures { λ k. ⌜ k ≡ (unfit ports (now (offsets .entry)) ⇒ 13 ∣ ltb room entries ⇒ 11 ∣ 0) ⌝ }
 {
-    if is_unfit(ports, offsets) {
+    if offsets::is_unfit(ports, offsets) {
         return 13;
     }
     if room < entries as usize {

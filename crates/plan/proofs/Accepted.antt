@@ -11,10 +11,10 @@ use Rattle.ground.specs.Lists.{All}
 use Rattle.ground.specs.First.{part, None}
 use Rattle.ground.proofs.First.{first-none, among-part}
 use Rattle.turn.specs.Phase.{turn}
-use Rattle.plan.specs.Offsets.{unfit}
+use Rattle.offsets.specs.Offsets.{unfit}
+use Rattle.offsets.proofs.Fit.{fit-offsets}
 use Rattle.plan.specs.Answer.{Request, Codebook, asked, own, early, test, refusal}
 use Rattle.plan.specs.Lawful.{Lawful}
-use Rattle.plan.proofs.Fed.{fit-offsets}
 
 -- at a number that is not shared the test is the rule
 own-rule : {R : Type 0} (b : Codebook R) (q : Request R) (k : ℕ) → T (own k) → test b q k ≡ b .rule (q .report) k

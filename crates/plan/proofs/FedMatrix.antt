@@ -15,10 +15,10 @@ use Rattle.turn.specs.Cancel.{Cancels}
 use Rattle.turn.proofs.Cancel.{cancels-orthogonal}
 use Rattle.weight.specs.Products.{re, im, limit}
 use Rattle.weight.proofs.CrossSum.{between, cross-bound}
+use Rattle.offsets.proofs.Fed.{length-fed, fed-at, fed-below, fed-zeros, differences-fed}
 use Rattle.plan.specs.Plan.{Layer, Plan, past, layerAt, columnOf, matrix, layerIn}
 use Rattle.plan.specs.Offsets.{fedColumn, fedMatrix}
 use Rattle.plan.specs.Sound.{Sound}
-use Rattle.plan.proofs.Fed.{length-fed, fed-at, fed-below, fed-zeros, differences-fed}
 use Rattle.plan.proofs.Matrix.{column-below, layer-long, layers-cancel}
 
 -- ---- any plan: every entry is a phase, and offsets of 0 leave the matrix as it is

@@ -5,7 +5,6 @@ pub mod Told
 pub mod Drawn
 pub mod Matrix
 pub mod Base
-pub mod Fed
 pub mod FedMatrix
 pub mod Answers
 pub mod Accepted

@@ -10,9 +10,10 @@ use Rattle.turn.specs.declared.Beam.{Beam}
 use Rattle.turn.specs.Phase.{turn, difference}
 use Rattle.turn.specs.Column.{steps, product, grid, step, beam, column}
 use Rattle.turn.specs.Exact.{count, differences}
+use Rattle.offsets.specs.Offsets.{fed, unfit}
 use Rattle.plan.specs.declared.Record.{Record}
 use Rattle.plan.specs.Plan.{noBeam, named, columnOf}
-use Rattle.plan.specs.Offsets.{fed, unfit, fedColumn, fedMatrix}
+use Rattle.plan.specs.Offsets.{fedColumn, fedMatrix}
 use Rattle.plan.specs.Masks.{bit, isZero, barred, rankBarred}
 use Rattle.plan.specs.Answer.{Codebook, asked, refused, planned, recordOf, bufferOf, early, test, refusal}
 

@@ -1,20 +1,19 @@
 -- With offsets of 0 a call answers as before there were any: by the same refusal, and with 01's phases, doubled.
 use mathlib.Core.Path.{_≡_, refl, sym, ap, _∙_}
 use mathlib.Core.Logic.{_≢_}
-use mathlib.Core.Bool.{true, false, not, true≢false}
+use mathlib.Core.Bool.{false, not, true≢false}
 use mathlib.Core.List.{List, map}
 use Prim.Native.Nat.{ℕ, zero, suc}
 use native.Mathlib.Omega.{arith}
-use lib.Dec.{eqb, leb, eqb-refl}
-use lib.ListN.{length, replicate, length-replicate}
+use lib.Dec.{eqb}
+use lib.ListN.{length, replicate}
 use borrow.Author.Tests.{ne-eqb}
-use Rattle.ground.specs.Lists.{some}
 use Rattle.ground.specs.First.{first}
-use Rattle.ground.proofs.Booleans.{is-true}
 use Rattle.ground.proofs.First.{first-part, first-of}
-use Rattle.turn.specs.Phase.{turn}
+use Rattle.offsets.specs.Offsets.{unfit}
+use Rattle.offsets.proofs.Fit.{zeros-fit}
 use Rattle.plan.specs.declared.Record.{Record}
-use Rattle.plan.specs.Offsets.{unfit, fedMatrix}
+use Rattle.plan.specs.Offsets.{fedMatrix}
 use Rattle.plan.specs.Base.{doubled, baseMatrix}
 use Rattle.plan.specs.Answer.{Codebook, asked, planned, recordOf, bufferOf, Answers, test, refusal, baseRefusal}
 use Rattle.plan.specs.Answer.{PhasesLeft}
@@ -22,16 +21,6 @@ use Rattle.plan.specs.Lawful.{Lawful}
 use Rattle.plan.proofs.Base.{matrix-doubled}
 use Rattle.plan.proofs.FedMatrix.{fed-matrix-zeros}
 use Rattle.plan.proofs.Accepted.{accepted-in-range}
-
--- zeros are fit
-none-high : (n : ℕ) → some (leb turn) (replicate n 0) ≡ false
-unfolding some
-none-high zero = refl
-none-high (suc n) = none-high n
-
-pub zeros-fit : (n : ℕ) → unfit n (replicate n 0) ≡ false
-unfolding unfit
-zeros-fit n = rw (length-replicate {A = ℕ} n 0, none-high n, is-true (eqb n n) (eqb-refl n))
 
 -- a buffer that is to hold the same answer, where it is to hold one
 same-buffer : (k : ℕ) {answer answer′ : List ℕ} (lent : List ℕ) → (k ≡ 0 → answer ≡ answer′)

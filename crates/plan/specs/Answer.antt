@@ -10,11 +10,12 @@ use Rattle.ground.specs.Cases.{_⇒_∣_}
 use Rattle.ground.specs.First.{first, part}
 use Rattle.turn.specs.declared.Beam.{Beam}
 use Rattle.weight.specs.Table.{weight, numbers}
+use Rattle.offsets.specs.Offsets.{unfit}
 use Rattle.plan.specs.declared.Record.{Record}
 use Rattle.plan.specs.declared.Drawing.{Drawing}
 use Rattle.plan.specs.declared.Judged.{Judged}
 use Rattle.plan.specs.Plan.{Plan, noBeam, named}
-use Rattle.plan.specs.Offsets.{unfit, fedMatrix}
+use Rattle.plan.specs.Offsets.{fedMatrix}
 use Rattle.plan.specs.Masks.{barred, rankBarred}
 
 -- what is asked: a report, the masks, the offsets of the ports, and for how many entries the lent buffer has room

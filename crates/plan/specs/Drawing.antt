@@ -9,9 +9,9 @@ use Rattle.ground.specs.Cases.{_⇒_∣_}
 use Rattle.ground.specs.Lists.{over}
 use Rattle.turn.specs.Phase.{half}
 use Rattle.turn.specs.Column.{grid, column}
+use Rattle.offsets.specs.Offsets.{fed}
 use Rattle.plan.specs.declared.Drawing.{Drawing}
 use Rattle.plan.specs.Plan.{Plan, layerAt, columnOf}
-use Rattle.plan.specs.Offsets.{fed}
 
 -- the entries of a block, and of a column
 abbrev pub entries : Drawing → ℕ

@@ -12,6 +12,7 @@ use Rattle.ground.specs.Lists.{some, among}
 use Rattle.ground.specs.First.{first, numbered, part}
 use Rattle.ground.proofs.Booleans.{either}
 use Rattle.ground.proofs.First.{none-first, first-none, first-stop, first-part, first-cong}
+use Rattle.offsets.specs.Offsets.{unfit}
 use Rattle.report.specs.declared.Report.{Report}
 use Rattle.report.specs.Rules.{InRange}
 use Rattle.report.specs.Beams.{isHalf}
@@ -19,7 +20,6 @@ use Rattle.report.specs.Listed.{asks}
 use Rattle.report.proofs.InRange.{zero-in-range}
 use Rattle.plan.specs.declared.Record.{Record}
 use Rattle.plan.specs.Masks.{isZero, barred}
-use Rattle.plan.specs.Offsets.{unfit}
 use Rattle.plan.specs.Answer.{Request, own, early, asked, test, refusal, Called}
 use Rattle.plan.proofs.Answers.{number-given}
 use Rattle.plan.proofs.Worked.{onesBut}

@@ -15,6 +15,7 @@ use Rattle.ground.specs.First.{first, numbered}
 use Rattle.ground.proofs.Booleans.{cond-both}
 use Rattle.ground.proofs.Tests.{and-left, and-right, or-left, or-right, every-at}
 use Rattle.ground.proofs.First.{first-none, first-stop, first-insert, none-zero, none-within}
+use Rattle.offsets.proofs.Fit.{zeros-fit}
 use Rattle.settings.specs.Settings.{isSetting, ports, maskBytes}
 use Rattle.settings.specs.Ranges.{isRank}
 use Rattle.settings.proofs.Known.{ports-few}
@@ -24,7 +25,6 @@ use Rattle.report.specs.Rules.{rule, ownOrder, InRange}
 use Rattle.report.proofs.InRange.{in-range}
 use Rattle.plan.specs.Masks.{bitOf, bit, isZero, barred, rankBarred}
 use Rattle.plan.specs.Answer.{early, test, refusal}
-use Rattle.plan.proofs.Zeros.{zeros-fit}
 use Rattle.single.specs.Single.{single}
 use Rattle.single.proofs.Lawful.{single-lawful}
 use Rattle.printer.specs.Prints.{fullMask, noOffsets, askedOf, refusalOf}

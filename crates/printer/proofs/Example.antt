@@ -6,6 +6,7 @@ use native.Mathlib.Omega.{arith}
 use Rattle.ground.specs.Lists.{join, some, each}
 use Rattle.ground.specs.First.{first}
 use Rattle.turn.specs.Column.{steps, product, grid, step, beam, column}
+use Rattle.offsets.specs.Offsets.{fed, unfit}
 use Rattle.settings.specs.Settings.{settings, isSetting, maskBytes}
 use Rattle.settings.specs.Ranges.{modeTwo, halfLength, kTwo, kRows, halvesI11, i11Values, halvesI12, i12Values}
 use Rattle.settings.specs.Ranges.{i13Values, i2Values}
@@ -13,7 +14,7 @@ use Rattle.report.specs.declared.Report.{Report}
 use Rattle.report.specs.Rules.{rule}
 use Rattle.report.specs.Beams.{n, base, moves, moved, beams}
 use Rattle.plan.specs.Plan.{columnOf}
-use Rattle.plan.specs.Offsets.{fed, unfit, fedColumn, fedMatrix}
+use Rattle.plan.specs.Offsets.{fedColumn, fedMatrix}
 use Rattle.plan.specs.Masks.{bit, isZero, barred, rankBarred}
 use Rattle.plan.specs.Answer.{early, test, refusal}
 use Rattle.single.specs.Columns.{byRank}

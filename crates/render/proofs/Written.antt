@@ -13,9 +13,9 @@ use Rattle.ground.proofs.Booleans.{is-false, cond-both}
 use Rattle.ground.specs.Lists.{over, All, all-nil}
 use Rattle.ground.proofs.All.{all-append, all-at}
 use Rattle.turn.specs.Phase.{turn}
+use Rattle.offsets.proofs.Fed.{fed-below}
 use Rattle.plan.specs.declared.Drawing.{Drawing}
 use Rattle.plan.specs.Drawing.{drawn, drawable, layersIn, Written}
-use Rattle.plan.proofs.Fed.{fed-below}
 use Rattle.writer.proofs.Drawn.{drawable-sizes}
 use Rattle.writer.proofs.Offsets.{columns-below}
 use Rattle.writer.proofs.Room.{layers-drawn, layers-none, length-layers, resized}

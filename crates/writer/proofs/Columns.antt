@@ -12,9 +12,9 @@ use Rattle.turn.specs.Column.{grid, column}
 use Rattle.turn.proofs.Lists.{length-grid}
 use Rattle.turn.proofs.Columns.{length-column, column-append}
 use Rattle.turn.proofs.Entries.{grid-entry, column-entry}
-use Rattle.plan.specs.Offsets.{fed}
+use Rattle.offsets.specs.Offsets.{fed}
+use Rattle.offsets.proofs.Fed.{length-fed, fed-take}
 use Rattle.plan.specs.Drawing.{coAt, coRow}
-use Rattle.plan.proofs.Fed.{length-fed, fed-take}
 use Rattle.writer.specs.Blocks.{placed}
 
 pub length-row : (co : List ℕ) (code n : ℕ) → length (coRow co code n) ≡ n

@@ -15,11 +15,12 @@ use Rattle.ground.specs.Cases.{_⇒_∣_}
 use Rattle.ground.specs.Lists.{join}
 use Rattle.ground.proofs.Booleans.{and-true-left, and-true-right}
 use Rattle.ground.proofs.Lists.{join-next}
+use Rattle.offsets.specs.Offsets.{fed}
+use Rattle.offsets.proofs.Fed.{length-fed}
 use Rattle.plan.specs.Plan.{Layer, Plan, past, layerAt, columnOf}
-use Rattle.plan.specs.Offsets.{fed, fedColumn, fedMatrix}
+use Rattle.plan.specs.Offsets.{fedColumn, fedMatrix}
 use Rattle.plan.specs.declared.Drawing.{Drawing}
 use Rattle.plan.specs.Drawing.{height, coRow, beamAt, columnAt, drawn, drawable}
-use Rattle.plan.proofs.Fed.{length-fed}
 use Rattle.turn.proofs.Columns.{length-column}
 use Rattle.writer.specs.Blocks.{small, DrawnIn}
 use Rattle.writer.proofs.Columns.{length-row}

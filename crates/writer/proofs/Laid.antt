@@ -13,10 +13,10 @@ use Rattle.ground.proofs.Written.{take-over}
 use Rattle.turn.specs.Column.{grid, column}
 use Rattle.turn.proofs.Lists.{length-grid}
 use Rattle.turn.proofs.Columns.{length-column}
+use Rattle.offsets.specs.Offsets.{fed}
+use Rattle.offsets.proofs.Fed.{length-fed, fed-append}
 use Rattle.plan.specs.declared.Drawing.{Drawing}
-use Rattle.plan.specs.Offsets.{fed}
 use Rattle.plan.specs.Drawing.{height, coAt, coRow, columnAt, drawn}
-use Rattle.plan.proofs.Fed.{length-fed, fed-append}
 use Rattle.writer.specs.Blocks.{placed, PutAt, Laid}
 use Rattle.writer.proofs.Columns.{length-row, column-next, length-fed-placed, block-fed}
 use Rattle.writer.proofs.Drawn.{drawn-next, length-drawn}

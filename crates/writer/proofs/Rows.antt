@@ -12,8 +12,8 @@ use mir.Val.{Fits}
 use Rattle.ground.specs.Lists.{every}
 use Rattle.ground.proofs.Tests.{every-at}
 use Rattle.turn.specs.Phase.{turn, half, phase}
-use Rattle.plan.specs.Offsets.{fed}
-use Rattle.plan.proofs.Fed.{fed-at}
+use Rattle.offsets.specs.Offsets.{fed}
+use Rattle.offsets.proofs.Fed.{fed-at}
 use Rattle.writer.specs.Blocks.{placed}
 use Rattle.writer.proofs.Columns.{length-placed, placed-entry}
 

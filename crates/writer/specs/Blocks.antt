@@ -1,12 +1,10 @@
--- Blocks as the code draws them, with sixteen places each; offsets as it reads them; what stands in a buffer while blocks
--- are put into it; and sizes.
+-- Blocks as the code draws them, with sixteen places each; what stands in a buffer while blocks are put into it; and sizes.
 use mathlib.Core.Path.{_≡_}
 use mathlib.Core.Bool.{Bool, _&&_}
 use mathlib.Core.List.{List, [], _∷_, _++_}
-use Prim.Native.Nat.{ℕ, _+_, _*_, _<_, _≤_}
+use Prim.Native.Nat.{ℕ, _+_, _*_, _≤_}
 use lib.Dec.{leb}
-use lib.ListN.{length, take, drop, getD}
-use Rattle.turn.specs.Phase.{turn, phase}
+use lib.ListN.{length, take, drop}
 use Rattle.turn.specs.Column.{grid, column}
 use Rattle.plan.specs.declared.Drawing.{Drawing}
 use Rattle.plan.specs.Drawing.{entries, height}
@@ -15,14 +13,6 @@ use Rattle.plan.specs.Drawing.{entries, height}
 -- c added
 unfoldable pub placed : ℕ → ℕ → ℕ → ℕ → List ℕ
 placed w x y c = take 16 (column (c ∷ []) (grid 16 x w y))
-
--- offsets that are phases; and the first 32 of a list as such, in 48 places, with 0 where there is none
-abbrev pub Low : List ℕ → Type 0
-Low xs = (length xs ≡ 48) × ((i : ℕ) → getD xs i 0 < turn)
-
-pub record Reduced (offsets xs : List ℕ) : Type 0 where
-  pub low : Low xs
-  pub same : (i : ℕ) → i < 32 → getD xs i 0 ≡ phase (getD offsets i 0)
 
 -- sixteen places are put down from place `at` on
 abbrev pub PutAt : List ℕ → ℕ → List ℕ → List ℕ → Type 0

@@ -6,15 +6,12 @@ ghost use Prim.Native.Nat.{_+_, _*_, _<_, _≤_};
 ghost use lib.ListN.{length, drop};
 ghost use Rattle.turn.specs.Phase.{half};
 ghost use Rattle.turn.specs.Column.{grid, column};
-ghost use Rattle.plan.specs.Offsets.{fed};
+ghost use Rattle.offsets.specs.Offsets.{fed, Low};
 ghost use Rattle.plan.specs.Drawing.{coAt, coRow, stepX, stepY};
-ghost use Rattle.writer.specs.Blocks.{Low, placed, PutAt, Laid};
+ghost use Rattle.writer.specs.Blocks.{placed, PutAt, Laid};
 
 // The places of a block, the most entries that one has: a loop over them has the same number of turns whatever the setting.
 pub const PLACES: usize = 16;
-
-// The places of offsets: those of 32 ports, and sixteen more, so that a loop over a block finds one at every place.
-pub const OFFSET_PLACES: usize = 48;
 
 const HALF: Part = TURN / 2;
 
@@ -24,7 +21,7 @@ const HALF: Part = TURN / 2;
 fn draw(
     out: &mut [Part],
     at: usize,
-    offsets: &[Part; OFFSET_PLACES],
+    offsets: &[Part; offsets::PLACES],
     p: usize,
     h: usize,
     w: u32,
@@ -84,7 +81,7 @@ fn co_phase(co: &[Part; 8], code: u16, q: u32) -> u16
 pub fn column(
     out: &mut [Part],
     at: usize,
-    offsets: &[Part; OFFSET_PLACES],
+    offsets: &[Part; offsets::PLACES],
     pairs: u32,
     rows: u32,
     w: u32,

@@ -1,15 +1,15 @@
 // The matrix of a plan, written into a lent buffer. Knows no report and no codebook.
 use plan::Drawing;
 use turn::Part;
-use turn::TURN;
 ghost use mathlib.Core.Path.{_≡_};
 ghost use mathlib.Core.Bool.{_&&_};
 ghost use Prim.Native.Nat.{_*_};
 ghost use lib.Dec.{leb};
 ghost use lib.ListN.{length};
 ghost use Rattle.ground.specs.Cases.{_⇒_∣_};
+ghost use Rattle.offsets.specs.Offsets.{Low};
 ghost use Rattle.plan.specs.Drawing.{height, drawn, Written};
-ghost use Rattle.writer.specs.Blocks.{Low, Reduced, Laid, small, need, DrawnIn};
+ghost use Rattle.writer.specs.Blocks.{Laid, small, need, DrawnIn};
 
 mod fill;
 
@@ -34,7 +34,7 @@ fn needed(v: u32, pairs: u32, rows: u32, columns: u32, room: usize) -> usize
 }
 
 // The layers with offsets, one after the other. Some entries after the last change, fewer than sixteen.
-fn layers(s: Drawing, offsets: &[Part; fill::OFFSET_PLACES], out: &mut [Part])
+fn layers(s: Drawing, offsets: &[Part; offsets::PLACES], out: &mut [Part])
     requires { ⌜ DrawnIn s (length (now out)) × Low (now offsets) ⌝ }
     ensures { λ _. ⌜ Laid (now (out .entry)) 0 (drawn (now (offsets .entry)) s (s .v)) (s .v * height s) (now (out .exit)) ⌝ }
 {
@@ -63,30 +63,6 @@ fn layers(s: Drawing, offsets: &[Part; fill::OFFSET_PLACES], out: &mut [Part])
     }
 }
 
-// How many offsets are read, of so many: those of up to 32 ports.
-fn at_most_32(n: usize) -> usize
-    ensures { λ m. ⌜ m ≡ (leb n 32 ⇒ n ∣ 32) ⌝ }
-{
-    if n <= 32 {
-        return n;
-    }
-    32
-}
-
-// The offsets of 32 ports in the first places, reduced; 0 where there is none.
-fn reduced(offsets: &[Part]) -> [Part; fill::OFFSET_PLACES]
-    ensures { λ xs. ⌜ Reduced (now (offsets .entry)) xs ⌝ }
-{
-    let n = at_most_32(offsets.len());
-    let mut xs = [0; fill::OFFSET_PLACES];
-    let mut i = 0;
-    while i < n {
-        xs[i] = offsets[i] % TURN;
-        i += 1;
-    }
-    xs
-}
-
 // Writes the layers of a drawing, one after the other, to the front of `out`, to each entry the offset of its port added,
 // and gives the number of their entries. A port past the last offset has none; a layer has at most 32 ports. Entries after
 // the layers stay as lent. Where the sizes are larger than any plan's, or `out` has not sixteen entries more than the layers,
@@ -101,7 +77,7 @@ pub fn matrix(s: Drawing, offsets: &[Part], out: &mut [Part]) -> usize
     let end = need - 16;
     let mut kept = [0; fill::PLACES];
     ground::copy_numbers(&out[end..], fill::PLACES, &mut kept);
-    let xs = reduced(offsets);
+    let xs = offsets::reduced(offsets);
     layers(s, &xs, out);
     fill::put(out, end, kept);
     end

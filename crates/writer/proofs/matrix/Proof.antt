@@ -1,6 +1,6 @@
 -- `matrix` meets its contract: what is drawn with the offsets reduced is what is drawn with them, and the sixteen entries
 -- after the layers are kept and put back.
-use mathlib.Core.Path.{_≡_, refl, sym, ap, ap₂, _∙_}
+use mathlib.Core.Path.{_≡_, refl, sym, ap, ap₂, subst, _∙_}
 use mathlib.Core.Bool.{true}
 use mathlib.Core.List.{List, _++_}
 use Prim.Native.Nat.{ℕ, _+_, _-_, _*_, _≤_}
@@ -9,7 +9,9 @@ use native.Mathlib.Omega.{arith}
 use denote.Ref.{now}
 use lib.ListN.{length, drop}
 use borrow.Author.Needs.{needs}
-use Rattle.plan.specs.Drawing.{height, drawable}
+use Rattle.offsets.specs.Offsets.{Low}
+use Rattle.offsets.proofs.Places.{reduced-low}
+use Rattle.plan.specs.Drawing.{height, drawn, drawable}
 use Rattle.writer.specs.Blocks.{DrawnIn}
 use Rattle.writer.proofs.Laid.{copied-last, put-back}
 use Rattle.writer.proofs.Drawn.{drawable-sizes, none-needed, some-needed}
@@ -59,8 +61,10 @@ tested l = l .before .before .before .before .before .before .before .before .be
 
 layers-requires : tie.Need-layers-requires
 layers-requires c κs =
-    let reduced = c .before .before .reduced .ensures in
-    (sizes (c .before .before .before .before .before .before .before .before), reduced .low)
+    let read = c .before .before .reduced .ensures in (
+      sizes (c .before .before .before .before .before .before .before .before),
+      subst Low (sym read) (reduced-low _),
+    )
 
 put-requires : tie.Need-put-requires
 put-requires c κs =
@@ -76,7 +80,8 @@ returns-2 c =
     let os = now (a .offsets) in
     let kept = copied-last (now (a .out)) (e .before .needed .result - 16) (copy .ensures) (enough e .past _ refl) in
     let long = length-layers os (a .s) _ (passed e .0) in
-    let same = drawn-reduced os _ (l .before .before .before .reduced .ensures) (a .s) (a .s .v) (sizes e .ports) in
+    let same = ap (λ (xs : List ℕ). drawn xs (a .s) (a .s .v)) (l .before .before .before .reduced .ensures)
+    ∙ drawn-reduced os (a .s) (a .s .v) (sizes e .ports) in
     record {
       many = enough e .end ∙ sym long;
       stands = put-back (now (a .out)) (l .layers .last .1 .1 .0) _ (a .s .v * height (a .s))

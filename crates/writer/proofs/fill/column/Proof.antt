@@ -8,9 +8,9 @@ use lib.Dec.{lit<}
 use lib.ListN.{length, drop}
 use mir.Facts.{fits-below, fits-lit, fits-lt}
 use Rattle.turn.specs.Column.{product, column}
-use Rattle.plan.specs.Offsets.{fed}
+use Rattle.offsets.specs.Offsets.{fed}
+use Rattle.offsets.proofs.Fed.{fed-none}
 use Rattle.plan.specs.Drawing.{coRow, stepX, stepY}
-use Rattle.plan.proofs.Fed.{fed-none}
 use Rattle.writer.specs.Blocks.{placed, Laid}
 use Rattle.writer.proofs.Numbers.{nine-bits, blocks-few, PairFits, pair-fits, PairRoom, pair-room}
 use Rattle.writer.proofs.Laid.{laid-none, blocksOf, laid-block, column-place}

@@ -10,7 +10,7 @@ use lib.ListN.{length, take, drop, replicate, length-set}
 use lib.Seq.{paste, paste-zero}
 use mir.Facts.{fits-below, fits-lit, fits-lt}
 use Rattle.ground.proofs.Written.{stored, stored-all, stored-at, stored-all-at}
-use Rattle.plan.specs.Offsets.{fed}
+use Rattle.offsets.specs.Offsets.{fed}
 use Rattle.writer.specs.Blocks.{placed}
 use Rattle.writer.proofs.Numbers.{twice-fits, falls, next-within, sixteen-within, sixteen-fits, sixteen-twice}
 use Rattle.writer.proofs.Columns.{length-fed-placed}

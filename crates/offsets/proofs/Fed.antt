@@ -1,20 +1,16 @@
--- What offsets do to columns: nothing to a difference of two layers, port by port, and nothing at all where they are 0; and
--- what is known of offsets that are not refused.
+-- What offsets do to columns: nothing to a difference of two layers, port by port, and nothing at all where they are 0.
 use mathlib.Core.Path.{_≡_, refl, ap, ap₂, _∙_}
-use mathlib.Core.Bool.{false, not}
 use mathlib.Core.List.{List, [], _∷_, _++_}
 use Prim.Native.Nat.{ℕ, zero, suc, _+_, _-_, _<_}
 use native.Mathlib.Nat.{mod-lt, mod-mod}
 use native.Mathlib.Omega.{arith}
-use lib.Dec.{eqb, leb, lit<}
+use lib.Dec.{lit<}
 use lib.ListN.{length, take, drop, getD, replicate}
-use borrow.Author.Tests.{eqb-true, leb-false, not-false}
-use Rattle.ground.specs.Lists.{some, All, all-nil, all-cons}
-use Rattle.ground.proofs.Booleans.{or-false}
+use Rattle.ground.specs.Lists.{All, all-nil, all-cons}
 use Rattle.turn.specs.Phase.{turn, phase, difference}
 use Rattle.turn.specs.Exact.{differences}
 use Rattle.turn.proofs.Differences.{difference-phases, difference-by, difference-back}
-use Rattle.plan.specs.Offsets.{fed, unfit}
+use Rattle.offsets.specs.Offsets.{fed}
 
 pub length-fed : (os xs : List ℕ) → length (fed os xs) ≡ length xs
 unfolding fed
@@ -74,21 +70,6 @@ fed-append [] [] ys = refl
 fed-append [] (x ∷ xs) ys = ap (λ (zs : List ℕ). x ∷ xs ++ zs) refl
 fed-append (o ∷ os) [] ys = refl
 fed-append (o ∷ os) (x ∷ xs) ys = ap (λ (zs : List ℕ). phase (x + o) ∷ zs) (fed-append os xs ys)
-
--- ---- offsets that are not refused
-
-below-turn : (os : List ℕ) → some (leb turn) os ≡ false → All (λ o. o < turn) os
-unfolding some
-below-turn [] e = all-nil
-below-turn (o ∷ os) e =
-    let p = or-false (leb turn o) (some (leb turn) os) e in
-    all-cons (leb-false turn o (p .0)) (below-turn os (p .1))
-
-pub fit-offsets : (ports : ℕ) (os : List ℕ) → unfit ports os ≡ false → (length os ≡ ports) × All (λ o. o < turn) os
-unfolding unfit
-fit-offsets ports os e =
-    let p = or-false (not (eqb (length os) ports)) (some (leb turn) os) e in
-    (eqb-true (length os) ports (not-false _ (p .0)), below-turn os (p .1))
 
 -- ---- differences
 

@@ -11,10 +11,10 @@ use borrow.Author.Needs.{needs}
 use borrow.Author.Tests.{eq-eqb, ne-eqb}
 use Rattle.ground.specs.Lists.{some}
 use Rattle.turn.specs.Phase.{turn}
-use Rattle.plan.specs.Offsets.{unfit}
-use Rattle.masks.proofs.Offsets.{reaches, next-larger, next-smaller}
-use Rattle.masks.proofs.is_unfit.Statement.{statement}
-use Rattle.masks.proofs.is_unfit.Tie as tie
+use Rattle.offsets.specs.Offsets.{unfit}
+use Rattle.offsets.proofs.Fit.{reaches, next-larger, next-smaller}
+use Rattle.offsets.proofs.is_unfit.Statement.{statement}
+use Rattle.offsets.proofs.is_unfit.Tie as tie
 
 abbrev Inv-loop : tie.InvT-loop
 Inv-loop ports offsets n largest₀ i₀ largest i = (i ≤ length offsets) × (leb turn largest ≡ reaches offsets i)

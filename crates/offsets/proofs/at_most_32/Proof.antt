@@ -1,7 +1,7 @@
 -- `at_most_32` meets its contract: its test is the definition's.
 use borrow.Author.Tests.{le-leb, lt-leb}
-use Rattle.writer.proofs.at_most_32.Statement.{statement}
-use Rattle.writer.proofs.at_most_32.Tie as tie
+use Rattle.offsets.proofs.at_most_32.Statement.{statement}
+use Rattle.offsets.proofs.at_most_32.Tie as tie
 
 returns : tie.Need-returns
 returns c = rw (le-leb _ _ (c .if1 .taken))

@@ -1,0 +1,2 @@
+-- What the contracts and the laws cite.
+pub mod Offsets
