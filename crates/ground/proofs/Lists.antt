@@ -13,6 +13,12 @@ use Rattle.ground.specs.Lists.{join, places, some, each, among, Member, 
 use Rattle.ground.specs.Lists.{NoRepeats, once-nil, once-cons}
 use Rattle.ground.proofs.Tests.{and-left, and-right, or-cases, or-left, or-right}
 
+-- what stands at a place within a list, whatever is read past its end
+pub at-within : {A : Type 0} (xs : List A) (i : ℕ) (x y : A) → i < length xs → getD xs i x ≡ getD xs i y
+at-within [] i x y h = absurd (not-suc-le-zero h)
+at-within (a ∷ xs) zero x y h = refl
+at-within (a ∷ xs) (suc i) x y h = at-within xs i x y (le-of-suc-le-suc h)
+
 -- ---- lists that are mapped
 
 module _ {A B : Type 0} (f : A → B) where
@@ -37,12 +43,6 @@ pub map-twice : {A B C : Type 0} (f : A → C) (g : B → C) (h : A → B) → (
     → map f xs ≡ map g (map h xs)
 map-twice f g h e [] = refl
 map-twice f g h e (x ∷ xs) = λ i. e x i ∷ map-twice f g h e xs i
-
--- what stands at a place within a list, whatever is read past its end
-pub at-within : {A : Type 0} (xs : List A) (i : ℕ) (x y : A) → i < length xs → getD xs i x ≡ getD xs i y
-at-within [] i x y h = absurd (not-suc-le-zero h)
-at-within (a ∷ xs) zero x y h = refl
-at-within (a ∷ xs) (suc i) x y h = at-within xs i x y (omega arith)
 
 -- to one and the same
 pub all-same : {A B : Type 0} (f : A → B) (b : B) (xs : List A) (x : A)
