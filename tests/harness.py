@@ -7,8 +7,8 @@ What is sent, for each of the two functions
 -------------------------------------------
   reports    every report in range of every setting, mode and rank, into a buffer just long enough, with only its bit of
              the rank mask and the bits it reads of the beam mask ones, twice: with offsets of 0, and with the fixed list
-             of its setting, in which no two ports have the same; and with a list drawn for it and masks of ones into
-             buffers longer and shorter by one number, for weights also by two
+             of its setting, in which no two ports have the same; and with masks of ones into buffers longer and shorter
+             by one number, for weights also by two, with a list drawn for it or the fixed one
   masks      every report in range, with only the bits it reads ones, and with each bit it reads the only zero
   ranks      every rank mask, for every setting, mode and rank
   bounds     each number of a report and all lengths on both sides of their bounds and at values that 8, 16 or 31 bits
@@ -18,8 +18,8 @@ What is sent, for each of the two functions
   order      all pairs of faults for every setting, mode and rank, and all sets of two or more faults for every setting
   random     requests drawn from legal numbers, bounds and extremes, answered by the whole model
 Where nothing is said of the offsets they are the fixed list of the setting, and 0 with numbers that are no setting.
-Of a codebook with very many reports only a part is sent into longer and shorter buffers and with such masks; its
-docstring says which.
+Of a codebook with very many reports only a part is sent into longer and shorter buffers and with such masks.
+precoder.py and panels.py say which, and for which of these reports lists are drawn.
 On a refusal the record's other numbers, l and m of its beams among them, are 0 and the buffer is as lent. Bytes around
 the buffer, the mask and the offsets, and the mask and the offsets, never change. No call uses more than 1,280 bytes of
 stack.
@@ -59,6 +59,7 @@ import random
 import struct
 import subprocess
 import sys
+import tempfile
 from pathlib import Path
 
 import table
@@ -113,16 +114,25 @@ def read_off(entries, size):
     return packed('H', phases), packed('h', weights)
 
 
-@functools.lru_cache(maxsize=None)
-def turned_by(offset):
-    """What an offset makes of an entry, by its phase: the phases (H) and the weights (h) that are read off the product."""
-    return dict(zip('Hh', zip(*[read_off([entry(e) * entry(offset)], 1) for e in range(TURN)])))
+class TurnedBy(dict):
+    """What an offset makes of an entry, by its phase: the phase (H) or the weight (h) that is read off the product."""
+
+    def __init__(self, offset, letter):
+        self.offset, self.letter = offset, letter
+
+    def __missing__(self, e):
+        phase, weight = read_off([entry(e) * entry(self.offset)], 1)
+        self[e] = phase if self.letter == 'H' else weight
+        return self[e]
+
+
+turned_by = functools.lru_cache(maxsize=None)(TurnedBy)
 
 
 # Of the last lists only: a drawn one is used a few times, one after the other.
 @functools.lru_cache(maxsize=64)
 def turned_by_list(offsets, letter):
-    return [turned_by(offset)[letter] for offset in offsets]
+    return [turned_by(offset, letter) for offset in offsets]
 
 
 def turned(phases, offsets, function):
@@ -199,8 +209,10 @@ class Codebook:
     draw_numbers  of a generator and a setting: numbers that mostly are no setting
     listed        of a setting, mode and rank: how many reports are in range
     known         what is known of all reports
-    among         of a setting, mode and rank: one of so many reports is sent into longer and shorter buffers, with drawn
-                  lists, and with masks
+    among         of a setting, mode and rank: one of so many reports is sent into longer and shorter buffers and with
+                  masks
+    with_drawn    of a setting, mode and rank: the places of those of them that have a drawn list in these buffers; the
+                  others have the fixed one
     """
 
     def __init__(self, **fields):
@@ -270,6 +282,11 @@ class Codebook:
 
     def refusal(self, function, report, ranks, mask, offsets, length):
         """The first refusal that applies, or 0."""
+        earlier = self.refusal_of_report(report, ranks, mask)
+        return earlier or self.refusal_of_loan(function, self.setting_of(report), report.v, offsets, length)
+
+    def refusal_of_report(self, report, ranks, mask):
+        """The first up to 10 that applies, or 0: these depend on neither offsets nor buffer."""
         s, mode, v = self.settings.get(report[:self.numbers]), report.mode, report.v
         if s is None:
             return 1
@@ -288,6 +305,10 @@ class Codebook:
         for k in self.bits_of(report):
             if not mask[k // 8] >> (k % 8) & 1:
                 return 10
+        return 0
+
+    def refusal_of_loan(self, function, s, v, offsets, length):
+        """The first of 13 and 11 that applies, or 0: these depend on no index and no mask."""
         if self.unfit(s, offsets):
             return 13
         if length < needed(function, s, v):
@@ -297,7 +318,7 @@ class Codebook:
 
 # ---- Requests and answers, as batch.c reads and writes them ----------------------------------------------------------
 
-TAIL, STACK = struct.Struct('<HB'), struct.Struct(f'<{CODES}I')
+LENGTH, TAIL, STACK = struct.Struct('<H'), struct.Struct('<HB'), struct.Struct(f'<{CODES}I')
 # A record: refusal, ports, layers and scale, and then l and m of the beam in each of its places.
 PLACES = 8
 NUMBERS, BEAMS = struct.Struct('<4I'), struct.Struct(f'<{2 * PLACES}I')
@@ -319,7 +340,14 @@ def pairs_in(data):
     return tuple(zip(numbers[::2], numbers[1::2]))
 
 
-NO_BEAMS = places_of([])
+def record_of(number, ports, layers, beams):
+    """The bytes of a record, and the one behind it by which the guards, the mask and the offsets are as lent."""
+    return NUMBERS.pack(number, ports, layers, layers * ports) + beams + b'\1'
+
+
+@functools.lru_cache(maxsize=None)
+def refused_with(number):
+    return record_of(number, 0, 0, places_of([]))
 
 
 def as_lent(fill, size, start=0):
@@ -356,6 +384,15 @@ def show_difference(function, answer, came):
     return text
 
 
+# What is lent with a report besides the mask: the offsets and a buffer of this length; the refusal number that a
+# request with them is built for (0 for none); and the bytes of both in a request.
+Loan = collections.namedtuple('Loan', 'offsets length number data')
+
+
+def loan_of(offsets, length, number):
+    return Loan(offsets, length, number, list_bytes(offsets) + LENGTH.pack(length))
+
+
 class Tests:
     """The tests by name, the requests of each and the answers they must have."""
 
@@ -373,8 +410,7 @@ class Tests:
     def clear(self):
         self.requests, self.answers, self.came = bytearray(), bytearray(), b''
         self.test_of, self.request_at, self.answer_at = array.array('L'), array.array('L'), array.array('L')
-        # By mode and rank: for each kind of offsets, the reports that are sent with it, the offsets, and the places of the
-        # answers.
+        # Reports, by mode and rank.
         self.reports = []
 
     def begin(self, name):
@@ -398,24 +434,46 @@ class Tests:
         if by_model != number:
             request = show_request(function, report, ranks, mask, offsets, length, fill)
             self.fail(test, f'{request}: built for {number}, {by_model} by the model')
-        self.test_of.append(test)
-        self.request_at.append(len(self.requests))
-        self.answer_at.append(len(self.answers))
-        self.expected[function.code][number] += 1
-        self.requests += b''.join((self.head.pack(function.code, *report, ranks, len(mask)), mask, list_bytes(offsets),
-                                   TAIL.pack(length, fill)))
-        size = WIDTH * length
-        if number:
-            self.answers += NUMBERS.pack(number, 0, 0, 0) + NO_BEAMS + b'\1' + as_lent(fill, size)
-        else:
-            answer, ports, layers = self.book.answer(function, report, offsets), len(offsets), report.v
-            self.answers += NUMBERS.pack(0, ports, layers, layers * ports) + self.book.beams_of(report) + b'\1' + answer
-            self.answers += as_lent(fill, size, len(answer))
+        self.put(function, report, ranks, mask, [loan_of(offsets, length, number)], fill, test)
+
+    def loan(self, function, s, v, offsets, length, number):
+        """A loan for reports in range of a setting and rank; its number must be the model's too."""
+        by_model = self.book.refusal_of_loan(function, s, v, offsets, length)
+        if by_model != number:
+            self.fail(self.test, f'offsets {offsets}, buffer {length}: built for {number}, {by_model} by the model')
+        return loan_of(offsets, length, number)
+
+    def add_each(self, function, report, ranks, mask, loans, fill):
+        """A request with each of the loans, for a report that must have no refusal up to 10 by the model."""
+        by_model = self.book.refusal_of_report(report, ranks, mask)
+        if by_model:
+            self.fail(self.test, f'{function.name} of {show_report(report)}: {by_model} by the model')
+        self.put(function, report, ranks, mask, loans, fill, self.test)
+
+    def put(self, function, report, ranks, mask, loans, fill, test):
+        """A request with each of the loans, and its answer."""
+        requests, answers, expected, record = self.requests, self.answers, self.expected[function.code], None
+        head, last = self.head.pack(function.code, *report, ranks, len(mask)) + mask, bytes([fill])
+        for offsets, length, number, data in loans:
+            self.test_of.append(test)
+            self.request_at.append(len(requests))
+            self.answer_at.append(len(answers))
+            expected[number] += 1
+            requests += head + data + last
+            if number:
+                answers += refused_with(number) + as_lent(fill, WIDTH * length)
+            else:
+                record = record or record_of(0, len(offsets), report.v, self.book.beams_of(report))
+                answer = self.book.answer(function, report, offsets)
+                answers += record + answer + as_lent(fill, WIDTH * length, len(answer))
 
     def run(self, command):
         """Sends all requests since they were cleared to one process and compares all answers."""
         try:
-            done = subprocess.run(command, input=self.requests, stdout=subprocess.PIPE, timeout=900)
+            with tempfile.TemporaryFile() as requests:
+                requests.write(self.requests)
+                requests.seek(0)
+                done = subprocess.run(command, stdin=requests, stdout=subprocess.PIPE, timeout=900)
             came, status = done.stdout, done.returncode
         except subprocess.TimeoutExpired as late:
             came, status = late.stdout or b'', 'none after 900 seconds'
@@ -426,12 +484,12 @@ class Tests:
             self.fail(self.harness, f'exit status {status}, {len(came)} bytes of {whole}')
         else:
             self.deepest = list(map(max, self.deepest, STACK.unpack_from(came, len(self.answers))))
-        self.came = memoryview(came)[:len(self.answers)]
-        if self.came != self.answers:
+        self.came = came
+        if not came.startswith(self.answers):
             ends = self.answer_at[1:] + array.array('L', [len(self.answers)])
             for k, (start, end) in enumerate(zip(self.answer_at, ends)):
-                if self.came[start:end] != self.answers[start:end]:
-                    self.differs(k, bytes(self.came[start:end]), bytes(self.answers[start:end]))
+                if came[start:end] != self.answers[start:end]:
+                    self.differs(k, came[start:end], bytes(self.answers[start:end]))
 
     def differs(self, k, came, answer):
         if self.test_of[k] in self.failures:
@@ -521,35 +579,46 @@ def draw_list(draw, s):
     return tuple([int(draw.random() * TURN) for _ in range(s.P)])
 
 
-Sent = collections.namedtuple('Sent', 'report offsets at')
+# All reports of a setting with this mode and rank; by the kind of offsets, what is sent of them: the place of the
+# report in `all`, its offsets, and the place of its answer.
+Reports = collections.namedtuple('Reports', 'mode v all sent')
 
 
 def reports_of(tests, function, s):
     """All reports of a setting; how many they are, and how many numbers answer them."""
     book, all_reports, all_numbers = tests.book, 0, 0
     draw = random.Random(f'{SEED} {function.name} {book.name_of(s)}')
-    lists = {ZEROS: (0,) * s.P, FIXED: fixed_list(s)}
+    zeros, fixed, ones = (0,) * s.P, fixed_list(s), book.ones(s)
     for mode, v in book.cases(s):
         tests.begin(f'{function.name}: reports of {book.name_of(s)} mode {mode} v={v}')
-        length, ones, listed = needed(function, s, v), book.ones(s), book.listed(s, mode, v)
-        part, sent = book.part_of_range(s, mode, v), {kind: [] for kind in KINDS}
-        for n, report in enumerate(book.reports_in_range(s, mode, v)):
+        length, listed, reports = needed(function, s, v), book.listed(s, mode, v), [*book.reports_in_range(s, mode, v)]
+        part, with_drawn = book.part_of_range(s, mode, v), book.with_drawn(s, mode, v)
+        sent = {kind: [] for kind in KINDS}
+
+        def around(offsets):
+            """Loans of buffers longer and shorter than needed, a longer one first."""
+            return [tests.loan(function, s, v, offsets, buffer, number) for more in range(1, function.parts + 1)
+                    for buffer, number in ((length + more, 0), (length - more, 11))]
+
+        exact = [tests.loan(function, s, v, offsets, length, 0) for offsets in (zeros, fixed)]
+        around_fixed = around(fixed)
+        for n, report in enumerate(reports):
             # No number is lent alike in the longer buffers and in the one just long enough: neither a number too many
             # nor a number too few goes unseen.
             fill = fill_for(length, n)
-            if n in part:
+            if n in with_drawn:
                 drawn = draw_list(draw, s)
-                sent[DRAWN].append(Sent(report, drawn, len(tests.answers)))
-                for more in range(1, function.parts + 1):
-                    tests.add(function, report, 255, ones, drawn, length + more, fill, 0)
-                    tests.add(function, report, 255, ones, drawn, length - more, fill, 11)
+                sent[DRAWN].append((n, drawn, len(tests.answers)))
+                tests.add_each(function, report, 255, ones, around(drawn), fill)
+            elif n in part:
+                tests.add_each(function, report, 255, ones, around_fixed, fill)
             mask = book.mask_of(s, book.bits_of(report))
-            for kind, offsets in lists.items():
-                sent[kind].append(Sent(report, offsets, len(tests.answers)))
-                tests.add(function, report, 1 << (v - 1), mask, offsets, length, (fill + 1 + n % 255) % 256, 0)
-        tests.reports.append((mode, v, sent))
-        tests.check(n + 1 == listed, f'{n + 1} reports in range, {listed} are listed')
-        all_reports, all_numbers = all_reports + n + 1, all_numbers + (n + 1) * length
+            tests.add_each(function, report, 1 << (v - 1), mask, exact, (fill + 1 + n % 255) % 256)
+            sent[ZEROS].append((n, zeros, tests.answer_at[-2]))
+            sent[FIXED].append((n, fixed, tests.answer_at[-1]))
+        tests.reports.append(Reports(mode, v, reports, sent))
+        tests.check(len(reports) == listed, f'{len(reports)} reports in range, {listed} are listed')
+        all_reports, all_numbers = all_reports + len(reports), all_numbers + len(reports) * length
     return all_reports, all_numbers
 
 
@@ -578,11 +647,10 @@ def layers_in(answer, v):
     return [answer[k:k + size] for k in range(0, v * size, size)]
 
 
-def are_named(rows, pairs, answer, v):
+def are_named(rows, pairs, layers):
     """Whether each layer begins with the phases that `rows` has for its pair, and places behind the layers' have (0,0)."""
-    size = len(answer) // v
-    begins = [pair in rows and answer.startswith(rows[pair], k * size) for k, pair in enumerate(pairs[:v])]
-    return all(begins) and not any(map(any, pairs[v:]))
+    begins = [pair in rows and layer.startswith(rows[pair]) for pair, layer in zip(pairs, layers)]
+    return all(begins) and not any(map(any, pairs[len(layers):]))
 
 
 def spoiled_beams(tests):
@@ -591,14 +659,14 @@ def spoiled_beams(tests):
     tests.begin('spoiled beams are seen')
     for s, mode, v in book.groups():
         for report in book.corner_reports(s, mode, v):
-            rows, answer = book.first_rows(s, v), book.answer_of(book.phases, report)
+            rows, layers = book.first_rows(s, v), layers_in(book.answer_of(book.phases, report), v)
             *before, last = pairs_in(book.beams_of(report))[:v]
             l, m = last
             for pair in {last, (0, 0), (l + 1, m), (l + s.N1 * s.O1, m), (l, m + s.N2 * s.O2)}:
-                seen = not are_named(rows, pairs_in(places_of([*before, pair])), answer, v)
+                seen = not are_named(rows, pairs_in(places_of([*before, pair])), layers)
                 tests.check(seen == (pair != last), f'{show_report(report)}: {pair} for {last}')
             if v < PLACES:
-                seen = not are_named(rows, pairs_in(places_of([*before, last, (1, 0)])), answer, v)
+                seen = not are_named(rows, pairs_in(places_of([*before, last, (1, 0)])), layers)
                 tests.check(seen, f'{show_report(report)}: a beam too many')
 
 
@@ -614,6 +682,7 @@ def differences(first, second):
     return tuple([(y - x) % TURN for x, y in zip(phases_in(first), phases_in(second))])
 
 
+@functools.lru_cache(maxsize=None)
 def orthogonal(first, second):
     """Whether two layers of phases are so, exactly."""
     return sum_to_zero(differences(first, second))
@@ -653,26 +722,25 @@ def list_for(first, second, largest):
     raise ArithmeticError(f'no offsets give {largest}')
 
 
-Layer = collections.namedtuple('Layer', 'x y powers')
+Layer = collections.namedtuple('Layer', 'weights conjugates powers')
 
 
 @functools.lru_cache(maxsize=None)
 def layer_of(data):
     """The weights of a layer, and the power of each less 16384 squared; the powers as bytes, which are soon hashed."""
-    numbers = struct.unpack(f'<{len(data) // 2}h', data)
-    x, y = numbers[::2], numbers[1::2]
-    return Layer(x, y, array.array('q', [a * a + b * b - RADIUS ** 2 for a, b in zip(x, y)]).tobytes())
+    numbers = numbers_in('h', data)
+    pairs = [*zip(numbers[::2], numbers[1::2])]
+    weights = [complex(x, y) for x, y in pairs]
+    powers = array.array('q', [x * x + y * y - RADIUS ** 2 for x, y in pairs])
+    return Layer(weights, [w.conjugate() for w in weights], powers.tobytes())
 
 
 @functools.lru_cache(maxsize=None)
 def largest_part(first, second):
     """The larger part, without its sign, of the sum over the ports of conjugate(first) times second."""
-    def products(x, y):
-        return sum(map(operator.mul, x, y))
-
-    first, second = layer_of(first), layer_of(second)
-    return max(abs(products(first.x, second.x) + products(first.y, second.y)),
-               abs(products(first.x, second.y) - products(first.y, second.x)))
+    # Exact: all parts are whole numbers far below 2 to the power of 53.
+    total = sum(map(operator.mul, layer_of(first).conjugates, layer_of(second).weights))
+    return int(max(abs(total.real), abs(total.imag)))
 
 
 Powers = collections.namedtuple('Powers', 'lowest highest lowest_port highest_port')
@@ -715,6 +783,14 @@ APART = HIGHEST - LOWEST
 # A setting, mode and rank, and the kind of the offsets.
 Group = collections.namedtuple('Group', 's mode v kind')
 
+# What came for a report: the bytes of the record's beams and of each layer.
+Answer = collections.namedtuple('Answer', 'report beams layers')
+
+
+def answer_in(data, report):
+    """The answer in what came from the beams on."""
+    return Answer(report, data[:BEAMS.size], layers_in(data[BEAMS.size + 1:], report.v))
+
 
 class Asked:
     """What is asked of the answers as they came, setting by setting, and the worst of all."""
@@ -727,39 +803,39 @@ class Asked:
 
     def of(self, function, s):
         """Of the answers to all reports of a setting."""
-        for mode, v, sent in self.tests.reports:
-            came = {kind: [*self.came(function, s, v, sent[kind])] for kind in KINDS}
+        for mode, v, reports, sent in self.tests.reports:
+            size, with_zeros = WIDTH * needed(function, s, v), None
             for kind in KINDS:
-                group, answers = Group(s, mode, v, kind), {}
+                group, first_with = Group(s, mode, v, kind), {}
+                came = [self.came(at, size) for _, _, at in sent[kind]]
                 # Equal ones are asked once.
-                for report, _, beams, answer in came[kind]:
-                    answers.setdefault((beams, answer), report)
+                for (n, _, _), data in zip(sent[kind], came):
+                    first_with.setdefault(data, n)
+                answers = {data: answer_in(data, reports[n]) for data, n in first_with.items()}
                 if function is self.tests.book.phases:
-                    for _, phases in answers:
-                        self.reached[kind].update(numbers_in('H', phases))
-                    self.orthogonality(group, answers)
+                    layers = [answers[data].layers for data in came]
+                    for layer in {*itertools.chain.from_iterable(layers)}:
+                        self.reached[kind].update(phases_in(layer))
+                    self.orthogonality(group, answers.values())
                     if kind == ZEROS:
-                        self.beams(group, answers)
-                        self.lists(group, answers)
-                        self.layers += v * len(sent[kind])
+                        with_zeros = layers
+                        self.beams(group, answers.values())
+                        self.lists(group, answers.values())
+                        self.layers += v * len(came)
                     else:
-                        self.offsets(group, came[ZEROS], came[kind])
+                        self.offsets(group, reports, sent[kind], with_zeros, layers)
                 else:
-                    self.cross_sums(group, answers)
-                    self.powers(group, answers)
-                    self.pairs[kind] += math.comb(v, 2) * len(sent[kind])
-        for cache in (phases_in, differences, layer_of, largest_part):
+                    self.cross_sums(group, answers.values())
+                    self.powers(group, answers.values())
+                    self.pairs[kind] += math.comb(v, 2) * len(came)
+        for cache in (phases_in, differences, orthogonal, layer_of, largest_part):
             cache.cache_clear()
 
-    def came(self, function, s, v, sent):
-        """For each report that was sent: itself, its offsets, and the beams and the answer that came."""
-        came, size = self.tests.came, WIDTH * needed(function, s, v)
-        for report, offsets, at in sent:
-            beams, start = bytes(came[at + NUMBERS.size:at + RECORD_SIZE]), at + RECORD_SIZE + 1
-            answer = bytes(came[start:start + size])
-            # What did not come counts as bytes that no test allows: beams of no setting, equal phases of no report,
-            # weights far too large.
-            yield report, offsets, beams.ljust(BEAMS.size, b'\x7f'), answer.ljust(size, b'\x7f')
+    def came(self, at, size):
+        """The bytes that came from the beams on, for an answer of so many bytes at a place."""
+        # What did not come counts as bytes that no test allows: beams of no setting, equal phases of no report, weights
+        # far too large.
+        return self.tests.came[at + NUMBERS.size:at + RECORD_SIZE + 1 + size].ljust(BEAMS.size + 1 + size, b'\x7f')
 
     def begin(self, what, group):
         name = self.tests.book.name_of(group.s)
@@ -771,50 +847,54 @@ class Asked:
     def orthogonality(self, group, answers):
         if group.v > 1:
             self.begin('phases, exactly orthogonal: layers of {}', group)
-            for (_, answer), report in answers.items():
-                if not all(itertools.starmap(orthogonal, itertools.combinations(layers_in(answer, group.v), 2))):
+            for report, _, layers in answers:
+                if not all(itertools.starmap(orthogonal, itertools.combinations(layers, 2))):
                     self.fail(report, 'two layers are not orthogonal')
 
     def beams(self, group, answers):
         self.begin('phases: the beams of {} that records name', group)
         rows = self.tests.book.first_rows(group.s, group.v)
-        for (beams, answer), report in answers.items():
-            if not are_named(rows, pairs_in(beams), answer, group.v):
+        for report, beams, layers in answers:
+            if not are_named(rows, pairs_in(beams), layers):
                 self.fail(report, 'a layer has not the beam that the record names')
 
     def lists(self, group, answers):
         """The worst of all lists of offsets, for every two layers."""
         self.begin('phases: cross-sums of {} with any list', group)
-        for (_, answer), report in answers.items():
-            for first, second in itertools.combinations(layers_in(answer, group.v), 2):
+        for report, _, layers in answers:
+            for first, second in itertools.combinations(layers, 2):
                 largest = largest_of_any_list(differences(first, second))
                 if largest > PART * group.s.P:
                     self.fail(report, f'a part is {largest:,} with some list')
                 if self.any_list.meet(largest, report):
                     self.any_list_layers = first, second
 
-    def offsets(self, group, with_zeros, came):
+    def offsets(self, group, reports, sent, with_zeros, came):
         self.begin('phases: offsets added to those of {}', group)
-        phases = {report: answer for report, _, _, answer in with_zeros}
-        both = {(phases[report], offsets, answer): report for report, offsets, _, answer in came}
-        for (before, offsets, answer), report in both.items():
-            if not are_added(before, offsets, answer):
-                self.fail(report, f'with {offsets} they are {numbers_in("H", answer)}, without {numbers_in("H", before)}')
+        first_with = {}
+        for (n, offsets, _), layers in zip(sent, came):
+            for before, layer in zip(with_zeros[n], layers):
+                first_with.setdefault((before, offsets, layer), n)
+        for (before, offsets, layer), n in first_with.items():
+            if not are_added(before, offsets, layer):
+                self.fail(reports[n], f'with {offsets} a layer is {phases_in(layer)}, without {phases_in(before)}')
 
     def cross_sums(self, group, answers):
         if group.v > 1:
             self.begin('weights: cross-sums of {}', group)
-            for (_, answer), report in answers.items():
-                largest = max(itertools.starmap(largest_part, itertools.combinations(layers_in(answer, group.v), 2)))
+            for report, _, layers in answers:
+                largest = max(itertools.starmap(largest_part, itertools.combinations(layers, 2)))
                 if largest > PART * group.s.P:
                     self.fail(report, f'a part is {largest:,}')
                 self.worst[group.kind].part.meet(largest, report)
 
     def powers(self, group, answers):
         self.begin('weights: powers of {}', group)
-        v, worst = group.v, self.worst[group.kind]
-        for (_, answer), report in answers.items():
-            found = powers_of(tuple([layer_of(layer).powers for layer in layers_in(answer, v)]))
+        v, worst, first_with = group.v, self.worst[group.kind], {}
+        for report, _, layers in answers:
+            first_with.setdefault(tuple([layer_of(layer).powers for layer in layers]), report)
+        for by_layer, report in first_with.items():
+            found = powers_of(by_layer)
             difference = found.highest_port - found.lowest_port
             if not (-PART <= LOWEST <= found.lowest and found.highest <= HIGHEST <= PART):
                 self.fail(report, f'powers from {found.lowest:,} to {found.highest:,}')
@@ -863,8 +943,8 @@ class Asked:
         s, offsets = book.setting_of(report), list_for(*self.any_list_layers, self.any_list.value)
         tests.add(book.weights, report, 255, book.ones(s), offsets, needed(book.weights, s, report.v), 0, 0)
         tests.run(command)
-        ((*_, answer),) = self.came(book.weights, s, report.v, [Sent(report, offsets, 0)])
-        largest = max(itertools.starmap(largest_part, itertools.combinations(layers_in(answer, report.v), 2)))
+        layers = answer_in(self.came(0, WIDTH * needed(book.weights, s, report.v)), report).layers
+        largest = max(itertools.starmap(largest_part, itertools.combinations(layers, 2)))
         tests.check(largest == self.any_list.value, f'{show_report(report)} with {offsets}: {largest:,}')
         print(f'weights: {largest:,} comes with the offsets {" ".join(map(str, offsets))}')
         tests.clear()
@@ -1321,9 +1401,11 @@ def random_requests(tests, function):
     drawn = collections.Counter()
     for _ in range(requests):
         request = draw_request(draw, book, function)
+        report, ranks, mask, offsets, length = request
         number = book.refusal(function, *request)
         drawn[number] += 1
-        tests.add(function, *request, draw.getrandbits(8), number, named[number])
+        loan, fill = loan_of(offsets, length, number), draw.getrandbits(8)
+        tests.put(function, report, ranks, mask, [loan], fill, named[number])
     for number, test in named.items():
         tests.test = test
         tests.check(drawn[number] >= FEWEST, f'only {drawn[number]} drawn')
