@@ -7,8 +7,8 @@ What is sent, for each of the two functions
 -------------------------------------------
   reports    every report in range of every setting, mode and rank, into a buffer just long enough, with only its bit of
              the rank mask and the bits it reads of the beam mask ones, twice: with offsets of 0, and with the fixed list
-             of its setting, in which no two ports have the same; and with masks of ones into buffers longer and shorter
-             by one number, for weights also by two, with a list drawn for it or the fixed one
+             of its setting, in which no two ports have the same; and with a list drawn for it and masks of ones into
+             buffers longer and shorter by one number, for weights also by two
   masks      every report in range, with only the bits it reads ones, and with each bit it reads the only zero
   ranks      every rank mask, for every setting, mode and rank
   bounds     each number of a report and all lengths on both sides of their bounds and at values that 8, 16 or 31 bits
@@ -18,8 +18,8 @@ What is sent, for each of the two functions
   order      all pairs of faults for every setting, mode and rank, and all sets of two or more faults for every setting
   random     requests drawn from legal numbers, bounds and extremes, answered by the whole model
 Where nothing is said of the offsets they are the fixed list of the setting, and 0 with numbers that are no setting.
-Of a codebook with very many reports only a part is sent into longer and shorter buffers and with such masks.
-precoder.py and panels.py say which, and for which of these reports lists are drawn.
+Of a codebook with very many reports only a part is sent into longer and shorter buffers and with such masks; its
+docstring says which.
 On a refusal the record's other numbers, l and m of its beams among them, are 0 and the buffer is as lent. Bytes around
 the buffer, the mask and the offsets, and the mask and the offsets, never change. No call uses more than 1,280 bytes of
 stack.
@@ -209,10 +209,8 @@ class Codebook:
     draw_numbers  of a generator and a setting: numbers that mostly are no setting
     listed        of a setting, mode and rank: how many reports are in range
     known         what is known of all reports
-    among         of a setting, mode and rank: one of so many reports is sent into longer and shorter buffers and with
-                  masks
-    with_drawn    of a setting, mode and rank: the places of those of them that have a drawn list in these buffers; the
-                  others have the fixed one
+    among         of a setting, mode and rank: one of so many reports is sent into longer and shorter buffers, with drawn
+                  lists, and with masks
     """
 
     def __init__(self, **fields):
@@ -592,8 +590,7 @@ def reports_of(tests, function, s):
     for mode, v in book.cases(s):
         tests.begin(f'{function.name}: reports of {book.name_of(s)} mode {mode} v={v}')
         length, listed, reports = needed(function, s, v), book.listed(s, mode, v), [*book.reports_in_range(s, mode, v)]
-        part, with_drawn = book.part_of_range(s, mode, v), book.with_drawn(s, mode, v)
-        sent = {kind: [] for kind in KINDS}
+        part, sent = book.part_of_range(s, mode, v), {kind: [] for kind in KINDS}
 
         def around(offsets):
             """Loans of buffers longer and shorter than needed, a longer one first."""
@@ -601,17 +598,14 @@ def reports_of(tests, function, s):
                     for buffer, number in ((length + more, 0), (length - more, 11))]
 
         exact = [tests.loan(function, s, v, offsets, length, 0) for offsets in (zeros, fixed)]
-        around_fixed = around(fixed)
         for n, report in enumerate(reports):
             # No number is lent alike in the longer buffers and in the one just long enough: neither a number too many
             # nor a number too few goes unseen.
             fill = fill_for(length, n)
-            if n in with_drawn:
+            if n in part:
                 drawn = draw_list(draw, s)
                 sent[DRAWN].append((n, drawn, len(tests.answers)))
                 tests.add_each(function, report, 255, ones, around(drawn), fill)
-            elif n in part:
-                tests.add_each(function, report, 255, ones, around_fixed, fill)
             mask = book.mask_of(s, book.bits_of(report))
             tests.add_each(function, report, 1 << (v - 1), mask, exact, (fill + 1 + n % 255) % 256)
             sent[ZEROS].append((n, zeros, tests.answer_at[-2]))

@@ -243,7 +243,6 @@ MULTI = Codebook(
     below=(10, 18, 10), extremes=[0, 2, 4, 258, 65537, 2 ** 31, 2 ** 31 + 1, 2 ** 32 - 1], near_misses=near_misses,
     drawn=120_000, draw_numbers=draw_numbers, listed=lambda s, mode, v: REPORTS_IN_RANGE[s[:3]][mode - 1][v - 1],
     among=lambda s, mode, v: min(32, of_one_beam(s, mode, v)),
-    with_drawn=lambda s, mode, v: MULTI.part_of_range(s, mode, v),
     known=Known(reports=570_752, phases=42_340_864, layers=1_509_056, pairs=1_548_352, reached={*range(0, TURN, 12)},
                 figures={ZEROS: Figures(194_816, -11_006, 6_213, 68_876, ((2, 4, 1), 4)),
                          FIXED: Figures(157_597, -17_304, 15_121, 129_700, ((2, 8, 1), 4)),
