@@ -23,7 +23,7 @@ use Rattle.plan.specs.Drawing.{placeOf, takes, coAt, coRow, beamAt, columnAt, D
 use Rattle.plan.proofs.Drawn.{nine-bits, beam-drawn}
 use Rattle.single.specs.Columns.{Added, o, ½, f, f+½, byRank, place, phaseOf, quarters}
 use Rattle.single.specs.Plan.{fOf, tOf, blockOf, plan}
-use Rattle.single.specs.Drawing.{codesOf, halfCodes, stepOf, drawingOf}
+use Rattle.single.specs.Drawing.{ranked, codesOf, halfCodes, stepOf, drawingOf}
 use Rattle.single.proofs.Layers.{halved, bracket, at-rank, placeAt, addedTo, layer-is, place-within}
 use Rattle.single.proofs.Apart.{takesF, takesHalf}
 use Rattle.single.proofs.Sound.{same-beams, few-blocks, plan-sound}
@@ -82,7 +82,7 @@ module _ (r : Report) (h : InRange r) (j : ℕ) (k : j < r .v) where
   by-rank a b t = eqb→eq (a (r .v) j) (b (r .v) j) (at-rank r h (λ v j. eqb (a v j) (b v j)) t j k)
 
   code-place : placeOf code ≡ placeAt r j
-  unfolding drawingOf codesOf places byRank every
+  unfolding drawingOf codesOf ranked places byRank every
   code-place =
       let halves = every-at 4 (λ j. eqb (placeOf (getD halfCodes j 0)) 0) tt j in
       either (isHalf r) (λ e. rw e (eqb→eq _ 0 (halves (omega (arith, halved r e .0)))))
@@ -91,7 +91,7 @@ module _ (r : Report) (h : InRange r) (j : ℕ) (k : j < r .v) where
   -- of whole beams: nothing is added to the first polarisation, and y to the second
   whole-added : (co : List ℕ) → let y = bracket (r .v) j .added in
       map phase (coRow (0 ∷ phase (fOf r) ∷ co) (getD (codesOf (r .v)) j 0) 2) ≡ map phase (0 ∷ phaseOf (fOf r) y ∷ [])
-  unfolding coRow coAt codesOf places byRank every
+  unfolding coRow coAt codesOf ranked places byRank every
   whole-added co =
       let c : ℕ → ℕ → ℕ = λ v j. getD (codesOf v) j 0 in
       let y : ℕ → ℕ → Added = λ v j. bracket v j .added in

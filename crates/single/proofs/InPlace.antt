@@ -69,7 +69,7 @@ module _ (r : Report) (h : InRange r) {b : Beams} (e : b ≡ said r 0) where
 
   -- whole beams: that of each bracket of the rank
   pub whole-lineup : isHalf r ≡ false → wholeLineup (r .v) (b .l) (b .m) ≡ lineupOf r
-  unfolding named layers codesOf whole
+  unfolding named layers whole
   whole-lineup w =
       rw (ranked-own (r .v) (v-few r h), w)
       (λ i. record {

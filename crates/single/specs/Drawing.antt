@@ -27,22 +27,22 @@ addedCode f+½ = 258
 abbrev pub codeOf : Bracket → ℕ
 codeOf b = 512 * place (b .beam) + addedCode (b .added)
 
+-- the columns of a rank; above eight, those of eight
+unfoldable pub ranked : ℕ → List Bracket
+ranked v = getD byRank (v - 1) (getD byRank 7 [])
+
 -- the codes of a rank, in eight places
 unfoldable pub codesOf : ℕ → List ℕ
-codesOf v = places 8 0 (map codeOf (getD byRank (v - 1) []))
+codesOf v = places 8 0 (map codeOf (ranked v))
 
 -- those of half-length beams: half a turn is added to quarters 2 and 4, 3 and 4, 2 and 3
 abbrev pub halfCodes : List ℕ
 halfCodes = 256 ∷ 266 ∷ 268 ∷ 262 ∷ 0 ∷ 0 ∷ 0 ∷ 0 ∷ []
 
--- the layers of a rank whose whole beams are given, by l and m of B, B', B'' and B''': their codes, and their beams. The
--- columns of a rank above eight are those of eight.
-unfoldable pub ranked : ℕ → List Bracket
-ranked v = getD byRank (v - 1) (getD byRank 7 [])
-
+-- the layers of a rank whose whole beams are given, by l and m of B, B', B'' and B''': their codes, and their beams
 abbrev pub wholeLineup : ℕ → List ℕ → List ℕ → Lineup
 wholeLineup v l m = record {
-  codes = places 8 0 (map codeOf (ranked v));
+  codes = codesOf v;
   beams = places 8 noBeam (map (λ c. beam (getD l (place (c .beam)) 0) (getD m (place (c .beam)) 0)) (ranked v));
 }
 

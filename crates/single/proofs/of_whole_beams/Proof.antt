@@ -11,7 +11,7 @@ use borrow.Author.Tests.{ltb-true, ltb-false}
 use Rattle.ground.specs.Lists.{places}
 use Rattle.ground.proofs.Booleans.{either}
 use Rattle.single.specs.Columns.{byRank}
-use Rattle.single.specs.Drawing.{ranked, wholeLineup}
+use Rattle.single.specs.Drawing.{ranked, codesOf, wholeLineup}
 use Rattle.single.proofs.of_whole_beams.Statement.{statement}
 use Rattle.single.proofs.of_whole_beams.Tie as tie
 
@@ -31,6 +31,7 @@ eight-or-more v h =
 -- the row of a rank, by its columns, and by its number; t2 and t3 are the places of l and m
 row : (s : tie.Start) (n : ℕ) → ranked (s .args .v) ≡ ranked n
     → wholeLineup n (s .args .t2) (s .args .t3) ≡ wholeLineup (s .args .v) (s .args .t2) (s .args .t3)
+unfolding codesOf
 row s n e = rw e
 
 rank : (s : tie.Start) (n : ℕ) → s .args .v ≡ n
@@ -51,7 +52,7 @@ abbrev from-six : tie.Else5 → tie.Start
 from-six c = from-four (c .before .before)
 
 returns-8 : tie.Need-returns-8
-unfolding ranked places byRank
+unfolding codesOf ranked places byRank
 returns-8 c =
     let e5 = c .before .before in
     let e3 = e5 .before .before in
@@ -61,7 +62,7 @@ returns-8 c =
     row (from-six e5) 8 (eight-or-more _ (past 7 seven (c .if7 .left)))
 
 pub of-whole-beams-spec : {M : Type 1} → statement M
-unfolding ranked places byRank
+unfolding codesOf ranked places byRank
 of-whole-beams-spec =
     tie.close
     (tie.spec

@@ -42,26 +42,26 @@ returns-3 c =
     judged-accepted _ _ _ _ _ (k .before .needs-of .ensures) (k .admit .ensures) (two .if2 .left)
     (whole k .before .beams-of .ensures) refl refl (c .accepted .ensures)
 
--- the layers that are given are the report's
-abbrev past-two : tie.After-of-whole-beams → tie.Else2
-past-two c = c .before .before .before .before .before
+-- where none applied, once the layers are given; they are the report's
+abbrev unrefused : tie.After-of-whole-beams → tie.Else2
+unrefused c = c .before .before .before .before .before
 
-layers-are : (c : tie.After-of-whole-beams) → c .of-whole-beams .result ≡ lineupOf (start (past-two c .before) .args .r)
+layers-are : (c : tie.After-of-whole-beams) → c .of-whole-beams .result ≡ lineupOf (start (unrefused c .before) .args .r)
 layers-are c =
-    let (h, e, half) = accepted (past-two c) in
+    let (h, e, half) = accepted (unrefused c) in
     c .of-whole-beams .ensures ∙ whole-lineup _ h e (half-said _ h e half)
 
 drawing-of-requires : tie.Need-drawing-of-requires
 drawing-of-requires c κs =
     let layers = c .before .before in
-    let (h, e, half) = accepted (past-two layers) in
+    let (h, e, half) = accepted (unrefused layers) in
     (h, e, half, ap (λ (y : Lineup). y .codes) (layers-are layers))
 
 returns-4 : tie.Need-returns-4
 returns-4 c =
     let drawn = c .before in
     let layers = drawn .before .before .before in
-    let e = past-two layers in
+    let e = unrefused layers in
     let k = e .before in
     judged-accepted _ _ _ _ _ (k .before .needs-of .ensures) (k .admit .ensures) (e .if2 .left)
     (whole k .before .beams-of .ensures) (layers-are layers) (drawn .drawing-of .ensures) (c .accept .ensures)

@@ -29,7 +29,7 @@ accepted c =
     let h = judged-in-range _ _ _ _ _ (k .before .needs-of .ensures) (k .admit-three .ensures) (c .if1 .left) in
     (h, in-range-said _ e h, half)
 
--- the layers that are given are the report's
+-- where none applied, once the layers are given; they are the report's
 abbrev unrefused : tie.After-of-half-length-beam → tie.Else1
 unrefused c = c .before .before .before
 

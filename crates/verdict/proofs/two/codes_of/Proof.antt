@@ -4,7 +4,7 @@ use Prim.Native.Nat.{ℕ}
 use native.Mathlib.Omega.{arith}
 use Rattle.ground.specs.Lists.{places}
 use Rattle.single.specs.Columns.{byRank}
-use Rattle.single.specs.Drawing.{codesOf}
+use Rattle.single.specs.Drawing.{ranked, codesOf}
 use Rattle.verdict.proofs.two.codes_of.Statement.{statement}
 use Rattle.verdict.proofs.two.codes_of.Tie as tie
 
@@ -12,7 +12,7 @@ row : {v : ℕ} (n : ℕ) → v ≡ n → codesOf n ≡ codesOf v
 row n e = sym (ap codesOf e)
 
 pub codes-of-spec : {M : Type 1} → statement M
-unfolding codesOf places byRank
+unfolding codesOf ranked places byRank
 codes-of-spec =
     tie.close
     (tie.spec
