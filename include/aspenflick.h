@@ -1,5 +1,5 @@
 // Aspenflick for C: the precoder of a 5G NR Type I PMI report of TS 38.214, single-panel (5.2.2.2.1) or multi-panel
-// (5.2.2.2.2), or its refusal; and a reader and a writer of logs of such reports.
+// (5.2.2.2.2), or its refusal; and a reader of logs of such reports.
 //
 // A call answers any numbers, masks, offsets and lengths. It allocates nothing, takes less than 2,048 bytes of stack
 // (measured, not proved) and keeps no state, so several threads may call at once, each with an `out` of its own. A struct
@@ -67,16 +67,15 @@
 // The version of the library. A struct, a parameter or a constant that changes makes the first number another, and every
 // function is linked by a name that ends with it: a program compiled with a header of another major number does not link.
 #define ASPENFLICK_VERSION_MAJOR 3
-#define ASPENFLICK_VERSION_MINOR 1
+#define ASPENFLICK_VERSION_MINOR 0
 #define ASPENFLICK_VERSION_PATCH 0
 
-// The largest sizes: ports, layers, numbers in `out` for phases and for weights, bytes of `mask`, bytes of a report in a log.
+// The largest sizes: ports, layers, numbers in `out` for phases and for weights, bytes of `mask`.
 #define ASPENFLICK_MOST_PORTS 32
 #define ASPENFLICK_MOST_LAYERS 8
 #define ASPENFLICK_MOST_PHASES 256
 #define ASPENFLICK_MOST_WEIGHTS 512
 #define ASPENFLICK_MOST_MASK_BYTES 32
-#define ASPENFLICK_MOST_REPORT_BYTES 40
 
 // The refusals, in the order in which they are tried. The first that applies is given; the record's other numbers, those
 // of its beams among them, are then 0 and `out` stays as lent.
@@ -105,10 +104,6 @@
 #define ASPENFLICK_FAULT_PADDED 2     // a number of several bytes whose last byte is zero; the place is that byte's
 #define ASPENFLICK_FAULT_LARGE 3      // a number's fifth byte is above 15; the place is that byte's
 
-// The refusals of what writes a log.
-#define ASPENFLICK_LOG_NO_ROOM 1      // `out` has no room for the whole of the next report
-#define ASPENFLICK_LOG_NUMBERS_LEFT 2 // after the last whole report fewer than eight numbers are left
-
 // What aspenflick_version gives where the library has the version of this header.
 #define ASPENFLICK_VERSION (10000 * ASPENFLICK_VERSION_MAJOR + 100 * ASPENFLICK_VERSION_MINOR + ASPENFLICK_VERSION_PATCH)
 
@@ -120,8 +115,6 @@
 #define aspenflick_panel_phases aspenflick_panel_phases_3
 #define aspenflick_panel_weights aspenflick_panel_weights_3
 #define aspenflick_log_next aspenflick_log_next_3
-#define aspenflick_log_write aspenflick_log_write_3
-#define aspenflick_log_write_all aspenflick_log_write_all_3
 
 #ifdef __cplusplus
 extern "C" {
@@ -148,15 +141,6 @@ typedef struct { uint32_t ng, n1, n2, mode, v, i11, i12, i13, i14[3], i2[3]; } a
 // above 15, and place is that byte's, or the log's length for 1; otherwise both are 0. next is where the next step starts:
 // behind a report, and otherwise where this one did. The report's numbers are 0 unless there is one.
 typedef struct { uint32_t kind, fault; uint64_t place, next; aspenflick_report report; } aspenflick_log_step;
-
-// What is given where a report is to be written. refusal is 0, and next the place behind the report; or refusal is 1, there is
-// no room for the whole of it, and next is where it was to start.
-typedef struct { uint32_t refusal; uint64_t next; } aspenflick_log_written;
-
-// What is given where several reports are to be written: how many were, and the place behind the last of them. refusal is 0
-// where these are all, 1 where there is no room for the whole of the next, and 2 where none is left, but some numbers are,
-// fewer than the eight of a report.
-typedef struct { uint32_t refusal; uint64_t reports, next; } aspenflick_reports_written;
 
 // The version of the library that is linked: 10000*major + 100*minor + patch, as in ASPENFLICK_VERSION.
 uint32_t aspenflick_version(void);
@@ -196,19 +180,6 @@ aspenflick_record aspenflick_panel_weights(aspenflick_panel_report r, const uint
 // end of the log gives the end. (2,1) with mode 1, v = 1, i11 = 1, i2 = 1 and the rest 0 is 02 01 01 01 01 00 00 01; the
 // number 200 is C8 01.
 aspenflick_log_step aspenflick_log_next(const uint8_t *log, size_t log_len, size_t from);
-
-// Writes a report into `out` from the place `from` on, in the form that `aspenflick_log_next` reads, and gives the place
-// behind it: 8 to 40 bytes. All other bytes stay as lent. Where there is no room for the whole report, a start past the end
-// among it, the refusal is ASPENFLICK_LOG_NO_ROOM, `next` is `from` and every byte stays as lent. The numbers are not judged.
-// The report of (2,1) above, written from the place 3 on, gives refusal 0 and next 11.
-aspenflick_log_written aspenflick_log_write(aspenflick_report r, uint8_t *out, size_t out_len, size_t from);
-
-// Writes several reports into `out`, one after the other, from the place `from` on. `numbers` has eight for each, in the
-// order of a report, so that an array of reports can be lent as it stands; `numbers_len` counts numbers. Where there is no
-// room for the whole of a report the refusal is ASPENFLICK_LOG_NO_ROOM: nothing of it is written, and those before it stand.
-// Where all reports are written and numbers are left, it is ASPENFLICK_LOG_NUMBERS_LEFT. `numbers` and `out` must not overlap.
-aspenflick_reports_written aspenflick_log_write_all(const uint32_t *numbers, size_t numbers_len, uint8_t *out,
-                                                    size_t out_len, size_t from);
 
 #ifdef __cplusplus
 }

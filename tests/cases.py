@@ -670,18 +670,6 @@ class Tests:
         return 0 if self.passed and not self.failed else 1
 
 
-def run_all(tests, program, runs, beside=()):
-    """Of each run a name, the input, what is due and how it is sent. Two go on at a time; what is to go on beside them is
-    begun first, and its results are given."""
-    not_run = Came(b'', b'', f'not run, as {MOST_HUNG} hung')
-    with concurrent.futures.ThreadPoolExecutor(2) as pool:
-        begun = [pool.submit(*call) for call in beside]
-        answers = pool.map(lambda run: run[3]() if program.hung < MOST_HUNG else not_run, runs)
-        for (name, data, due, _), came in zip(runs, answers):
-            tests.check_run(name, data, due, came)
-        return [call.result() for call in begun]
-
-
 def check_store(tests, files, stored):
     """The cases are the generator's, each once, in its files and its order, and of every kind there are enough."""
     cases, made, times = dict(stored), generated(), collections.Counter(name for name, _ in stored)
@@ -823,7 +811,12 @@ def main(arguments):
     failing = list(faults(program))
     print(f'{len(arrived)} deliveries, {len(failing)} failing reads and writes, {len(drawn)} random inputs: '
           + ', '.join(f'{word} {count}' for word, count in sorted(words.items())))
-    run_all(tests, program, runs + arrived + failing + drawn)
+    runs += arrived + failing + drawn
+    not_run = Came(b'', b'', f'not run, as {MOST_HUNG} hung')
+    with concurrent.futures.ThreadPoolExecutor(2) as pool:
+        answers = pool.map(lambda run: run[3]() if program.hung < MOST_HUNG else not_run, runs)
+        for (name, data, expected, _), came in zip(runs, answers):
+            tests.check_run(name, data, expected, came)
     return tests.report()
 
 

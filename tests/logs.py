@@ -24,6 +24,7 @@ What is sent:
 """
 
 import collections
+import concurrent.futures
 import functools
 import os
 import random
@@ -32,9 +33,8 @@ import subprocess
 import sys
 import threading
 import time
-from pathlib import Path
 
-from cases import WORKED, Came, Program, Tests, answered, run_all
+from cases import MOST_HUNG, WORKED, Came, Program, Tests, answered
 
 SEED = 38_214
 
@@ -224,34 +224,26 @@ def text_behind(before, log):
     return ''.join(line + '\n' for line in (*reports, ' '.join(words))).encode()
 
 
-# A block is sent so many times, and then a tail. Due are a part for each block, an ending, and what is said.
-Large = collections.namedtuple('Large', 'name times block tail part ending said')
-
 # How many bytes of blocks are sent at least, and what stands behind them: nothing, or two reports of which the last has a
 # padded number.
 LARGE = {'whole': (100_000_000, b''), 'a fault in the last report': (10_000_000, log_of(*LONGEST)[:-1] + b'\0')}
 
 
-def large_logs():
-    block = large_block()
-    part = text_of(block)[:-len('end\n')]
-    for name, (least, tail) in LARGE.items():
-        times = least // len(block) + 1
-        yield Large(name, times, block, tail, part, text_behind(times * len(block), tail), b'')
-
-
-def send_large(program, large):
-    """Gives what is due and what came, in place of the output how many bytes are as due, and the seconds."""
-    began, part, ending = time.monotonic(), large.part, large.ending
-    twice, whole, seen = part + part, large.times * len(part), 0
+def send_large(program, least, tail):
+    """Sends the block again and again, and then the tail. Gives how many bytes that is, what is due and what came, in place
+    of the output how many bytes are as due, and the seconds."""
+    block, began = large_block(), time.monotonic()
+    times, text = least // len(block) + 1, text_of(block)[:-len('end\n')]
+    ending = text_behind(times * len(block), tail)
+    twice, whole, seen = text + text, times * len(text), 0
     process = program.start(subprocess.PIPE)
 
     def send():
         try:
             with process.stdin as pipe:
-                for _ in range(large.times):
-                    pipe.write(large.block)
-                pipe.write(large.tail)
+                for _ in range(times):
+                    pipe.write(block)
+                pipe.write(tail)
         except BrokenPipeError:
             pass
 
@@ -260,7 +252,7 @@ def send_large(program, large):
     patience.start()
     with process:
         while came := os.read(process.stdout.fileno(), CHUNK):
-            at, left = seen % len(part), max(0, whole - seen)
+            at, left = seen % len(text), max(0, whole - seen)
             due = twice[at:at + min(left, len(came))] + ending[max(0, seen - whole):max(0, seen + len(came) - whole)]
             if came != due:
                 seen += len(os.path.commonprefix([came, due]))
@@ -270,14 +262,8 @@ def send_large(program, large):
         errors = process.stderr.read()
         sender.join()
     patience.cancel()
-    return Came(whole + len(ending), large.said, 0), Came(seen, errors, process.returncode), time.monotonic() - began
-
-
-def check_large(tests, large, sent):
-    due, came, seconds = sent
-    size = large.times * len(large.block) + len(large.tail)
-    print(f'large: {large.name}: {size} bytes, and {due.output} come of them, in {seconds:.0f} s')
-    tests.check(f'large: {large.name}', came == due, f'bytes, errors, status: {due}', f'as due up to {came}')
+    size, seconds = times * len(block) + len(tail), time.monotonic() - began
+    return size, Came(whole + len(ending), b'', 0), Came(seen, errors, process.returncode), seconds
 
 
 # ---- Tests ------------------------------------------------------------------------------------------------------------
@@ -304,39 +290,28 @@ def check_pmi(tests, program, pmi):
         tests.check_run(f'pmi: {line}', line.encode(), answered(line.encode()), pmi.from_file_of(line.encode()))
 
 
-def failing_reads(program, whole, cut):
-    """Reads that fail, a name and how each is run: of nothing, behind a whole report and inside a report."""
-    yield 'standard input closed', program.without_input
-    yield 'standard input open for writing only', lambda: program.from_file('/dev/null', 'wb')
-    for size, data in (('nothing', b''), ('a report', whole), ('a part of a report', cut)):
-        yield f'an error after {size}', lambda data=data: program.from_broken(data)
-
-
-def failing_writes(program, inputs):
-    """Writes that fail, of what comes of each input."""
-    for size, data in inputs.items():
-        yield f'{size} to a full device', lambda data=data: program.into_file(data, '/dev/full')
-        yield f'{size}, standard output closed', lambda data=data: program.without_output(data)
-        yield f'{size}, standard output for reading only', lambda data=data: program.into_file(data, '/dev/null', 'rb')
-
-
-def check_failing(tests, runs, report, said):
-    """Where a read or a write fails, what came of a whole report before may stand, and no other."""
-    for name, run in runs:
-        came = run()
-        tests.check(f'failing: {name}', came.output in (b'', report) and came.status == 0 and said.fullmatch(came.errors),
-                    str(came))
-
-
 SAID = re.compile(rb'readlog: [a-z0-9 ]+\n')
 
 
-def check_all_failing(tests, program):
+def check_failing(tests, program):
+    """Where a read or a write fails, the lines of whole reports that were read before may stand, and no other."""
     report = log_of(TWELVE[0])
-    line = text_of(report)[:-len('end\n')]
-    check_failing(tests, failing_reads(program, report, report[:-1]), line, SAID)
-    inputs = {'no log': b'', 'a report': report, 'a long log': report * 20_000}
-    check_failing(tests, failing_writes(program, inputs), b'', SAID)
+    long = report * 20_000
+    failing = {
+        'standard input closed': program.without_input,
+        'standard input open for writing only': lambda: program.from_file('/dev/null', 'wb'),
+        'an error instead of a log': lambda: program.from_broken(b''),
+        'an error after a report': lambda: program.from_broken(report),
+        'an error inside a report': lambda: program.from_broken(report[:-1]),
+    }
+    for size, log in (('no log', b''), ('a report', report), ('a long log', long)):
+        failing[f'{size} to a full device'] = lambda log=log: program.into_file(log, '/dev/full')
+        failing[f'{size}, standard output closed'] = lambda log=log: program.without_output(log)
+        failing[f'{size}, standard output for reading only'] = lambda log=log: program.into_file(log, '/dev/null', 'rb')
+    for name, run in failing.items():
+        came = run()
+        tests.check(f'failing: {name}', came.output in (b'', text_of(report)[:-len('end\n')]) and came.status == 0
+                    and SAID.fullmatch(came.errors), str(came))
 
 
 # How many logs end in each way at least.
@@ -353,7 +328,16 @@ def runs_of(program):
     return [(name, log, Came(text_of(log), b'', 0), send) for name, log, send in sent]
 
 
-def test_readlog(tests, program, pmi):
+def main(arguments):
+    if arguments in (['--help'], ['-h']):
+        print(__doc__.strip())
+        return 0
+    between = arguments.index('--') if '--' in arguments else 0
+    readlog, pmi = arguments[:between], arguments[between + 1:]
+    if not readlog or not pmi:
+        print('logs: it takes READLOG.. -- PMI.. or --help', file=sys.stderr)
+        return 2
+    tests, program, began = Tests(), Program(readlog), time.monotonic()
     check_reader(tests)
     runs = runs_of(program)
     ends = collections.Counter(due.output.splitlines()[-1].partition(b' at ')[0].decode() for _, _, due, _ in runs)
@@ -361,28 +345,21 @@ def test_readlog(tests, program, pmi):
     parts = collections.Counter(name.partition(':')[0] for name, _, _, _ in runs)
     for counted in (parts, ends):
         print(f'{len(runs)} logs: ' + ', '.join(f'{name} {count}' for name, count in counted.items()))
-    large = list(large_logs())
-    for each, sent in zip(large, run_all(tests, program, runs, [(send_large, program, each) for each in large])):
-        check_large(tests, each, sent)
-    check_all_failing(tests, program)
-    check_pmi(tests, program, pmi)
-
-
-def main(test, about, words, arguments):
-    """Runs a test of two programs, started by the words before `--` and behind it; gives the exit status."""
-    if arguments in (['--help'], ['-h']):
-        print(about.strip())
-        return 0
-    between = arguments.index('--') if '--' in arguments else 0
-    first, second = arguments[:between], arguments[between + 1:]
-    if not first or not second:
-        print(f'{Path(sys.argv[0]).stem}: it takes {words} or --help', file=sys.stderr)
-        return 2
-    tests, began = Tests(), time.monotonic()
-    test(tests, Program(first), Program(second))
+    not_run = Came(b'', b'', f'not run, as {MOST_HUNG} hung')
+    with concurrent.futures.ThreadPoolExecutor(2) as pool:
+        large = [(name, pool.submit(send_large, program, *sent)) for name, sent in LARGE.items()]
+        answers = pool.map(lambda run: run[3]() if program.hung < MOST_HUNG else not_run, runs)
+        for (name, log, due, _), came in zip(runs, answers):
+            tests.check_run(name, log, due, came)
+        for name, sent in large:
+            size, due, came, seconds = sent.result()
+            print(f'large: {name}: {size} bytes, {due.output} of text, in {seconds:.0f} s')
+            tests.check(f'large: {name}', came == due, f'bytes of text, errors, status: {due}', f'as due up to {came}')
+    check_failing(tests, program)
+    check_pmi(tests, program, Program(pmi))
     print(f'in all {time.monotonic() - began:.0f} s')
     return tests.report()
 
 
 if __name__ == '__main__':
-    sys.exit(main(test_readlog, __doc__, 'READLOG.. -- PMI..', sys.argv[1:]))
+    sys.exit(main(sys.argv[1:]))

@@ -37,9 +37,6 @@ has_python() {
     return 1
 }
 
-# has_program NAME: whether rt check has made the program
-has_program() { [[ -f $top/target/bin/$1 ]] || { say "no program target/bin/$1: rt check builds it"; return 1; }; }
-
 # install_packages PACKAGE..: says that it installs them, and does
 install_packages() {
     say "installs by apt-get: $*"

@@ -16,7 +16,51 @@
 // printed. The last line is `N passed, M failed`; the exit status is 0 only if M is 0.
 // Freestanding: of the C library only printf, memcpy and memcmp.
 #include <stdio.h>
-#include "logs.h"
+#include "aspenflick.h"
+#include "stack.h"
+
+void *memcpy(void *, const void *, size_t);
+int memcmp(const void *, const void *, size_t);
+
+typedef aspenflick_log_step step;
+enum { NUMBERS = 8, MOST_BYTES = 40 };
+static const size_t FARTHEST = (size_t)-1;
+
+static int same_report(aspenflick_report a, aspenflick_report b) { return !memcmp(&a, &b, sizeof a); }
+
+static int same_step(step a, step b) {
+    return a.kind == b.kind && a.fault == b.fault && a.place == b.place && a.next == b.next &&
+           same_report(a.report, b.report);
+}
+
+static aspenflick_report report_of(const uint32_t n[NUMBERS]) {
+    return (aspenflick_report){n[0], n[1], n[2], n[3], n[4], n[5], n[6], n[7]};
+}
+
+// ---- The log that is read ---------------------------------------------------------------------------------------------
+
+enum { MOST = 1 << 17, GUARD = 48, PLACES = 16, ROOMS = 2 };
+static uint8_t log[MOST];
+static size_t len;
+
+static void put(uint8_t byte) { log[len++] = byte; }
+
+static void put_number(uint32_t x) {
+    for (; x >= 128; x /= 128) put((uint8_t)(128 + x % 128));
+    put((uint8_t)x);
+}
+
+static void insert(size_t at, uint8_t byte) {
+    for (size_t i = len++; i > at; i--) log[i] = log[i - 1];
+    log[at] = byte;
+}
+
+// Two copies of it, each between guards, and what each is to hold after the calls.
+typedef struct { _Alignas(PLACES) uint8_t bytes[PLACES + GUARD + MOST + GUARD]; } room;
+static room rooms[ROOMS], lent[ROOMS];
+static size_t start[ROOMS];
+
+static uint8_t *inner(int r) { return rooms[r].bytes + start[r] + GUARD; }
 
 // ---- The second reader ------------------------------------------------------------------------------------------------
 // The log is first split by the top bit alone, from its end: for each byte, where the number that holds it has its last
@@ -30,6 +74,12 @@ static void split(void) {
         if (log[at] < 128) stops = at;
         last[at] = stops;
     }
+}
+
+static size_t shortest(uint64_t value) {
+    size_t bytes = 1;
+    while (value >> 7 * bytes) bytes++;
+    return bytes;
 }
 
 // Judges the number whose first byte is at a place: the fault and its place, or 0 and the value.
@@ -46,7 +96,7 @@ static uint32_t judge(size_t at, uint64_t *found) {
     }
     if (last[at] == len) return ASPENFLICK_FAULT_ENDS;
     *found = last[at];
-    if (bytes > shortest((uint32_t)value)) return ASPENFLICK_FAULT_PADDED;
+    if (bytes > shortest(value)) return ASPENFLICK_FAULT_PADDED;
     *found = value;
     return 0;
 }
@@ -175,7 +225,7 @@ static const uint8_t meets[PARTS][OUTCOMES] = {
     [RANDOM] = {1, 1, 1, 1, 1},
 };
 
-static loan rooms[ROOMS];
+typedef unsigned long long count;
 static count logs[PARTS], steps[PARTS], outcomes[PARTS][OUTCOMES], failures[CHECKS];
 static int part, fault;
 static uint32_t deepest;
@@ -213,7 +263,7 @@ static __attribute__((noinline)) step call(uint8_t *bytes, size_t from, int furt
 static step take_as(size_t from, const step *before) {
     step due = due_step(from), came[ROOMS];
     for (int r = 0; r < ROOMS; r++, steps[part]++) {
-        step s = came[r] = call(bytes_of(&rooms[r]), from, before != 0);
+        step s = came[r] = call(inner(r), from, before != 0);
         if (s.kind != due.kind) fail(KIND, from, s, due);
         if (s.fault != due.fault) fail(FAULT, from, s, due);
         if (s.place != due.place) fail(PLACE, from, s, due);
@@ -229,20 +279,43 @@ static step take_as(size_t from, const step *before) {
 
 static step take(size_t from) { return take_as(from, 0); }
 
-// Lends the log; for random ones also between other guards.
-static void lend_log(void) {
-    lend(rooms, len, 1, logs[part]);
-    guard(rooms, part == RANDOM ? below(PAIRS + 1) : 0);
+// The generator is splitmix64.
+static uint64_t state;
+
+static uint64_t draw(void) {
+    uint64_t z = state += 0x9e3779b97f4a7c15;
+    z = (z ^ z >> 30) * 0xbf58476d1ce4e5b9;
+    z = (z ^ z >> 27) * 0x94d049bb133111eb;
+    return z ^ z >> 31;
+}
+
+static uint32_t below(uint32_t bound) { return (uint32_t)((draw() >> 32) * bound >> 32); }
+
+// The guards of the two rooms differ in every byte: one ends a number, the other goes on. For random logs there are others.
+static const uint8_t pairs[][ROOMS] = {{0x01, 0x80}, {0x00, 0xff}, {0x7f, 0x0f}};
+enum { PAIRS = sizeof pairs / sizeof pairs[0] };
+
+static void lend(void) {
+    uint32_t pair = part == RANDOM ? below(PAIRS + 1) : 0;
+    start[0] = logs[part] % PLACES;
+    start[1] = PLACES - 1 - start[0];
+    for (size_t i = 0; i < GUARD; i++) {
+        uint8_t drawn = pair < PAIRS ? 0 : (uint8_t)draw();
+        for (int r = 0; r < ROOMS; r++) {
+            uint8_t *before = lent[r].bytes + start[r] + i, *behind = before + GUARD + len;
+            *before = *behind = pair < PAIRS ? pairs[pair][r] : r == 0 ? drawn : (uint8_t)~drawn;
+        }
+    }
     for (int r = 0; r < ROOMS; r++) {
-        memcpy(lent_of(&rooms[r]), log, len);
-        hand_out(&rooms[r]);
+        memcpy(lent[r].bytes + start[r] + GUARD, log, len);
+        memcpy(rooms[r].bytes + start[r], lent[r].bytes + start[r], GUARD + len + GUARD);
     }
 }
 
 // Reads the log from its start until the end or a fault, then three times more; from all places from `first` on up to
 // `behind`, and from places past its end.
 static void read_log(size_t first, size_t behind) {
-    lend_log();
+    lend();
     split();
     size_t at = 0;
     for (step due = due_step(at); due.kind == ASPENFLICK_LOG_REPORT; due = due_step(at)) {
@@ -262,8 +335,10 @@ static void read_log(size_t first, size_t behind) {
     }
     step none = {0};
     for (int r = 0; r < ROOMS; r++) {
-        if (!guards_stand(&rooms[r])) fail(GUARDS, 0, none, none);
-        if (!as_lent(&rooms[r])) fail(LOG, 0, none, none);
+        const uint8_t *is = rooms[r].bytes + start[r], *was = lent[r].bytes + start[r];
+        size_t behind_log = GUARD + len;
+        if (memcmp(is, was, GUARD) || memcmp(is + behind_log, was + behind_log, GUARD)) fail(GUARDS, 0, none, none);
+        if (memcmp(is + GUARD, was + GUARD, len)) fail(LOG, 0, none, none);
     }
     logs[part]++;
 }
@@ -281,6 +356,27 @@ static void read_short(void) {
             read_log(0, len);
         }
     }
+}
+
+// The first and the last number of each count of bytes, neighbours of theirs, and reports that are accepted.
+static const uint32_t twelve[12][NUMBERS] = {
+    {2, 1, 1, 1, 1, 0, 0, 1},
+    {4, 2, 1, 2, 200, 127, 128, 0},
+    {0, 127, 128, 16383, 16384, 2097151, 2097152, 268435455},
+    {268435456, 4294967295, 0, 127, 128, 16383, 16384, 2097151},
+    {16, 1, 2, 2, 31, 0, 3, 7},
+    {4294967295, 4294967295, 4294967295, 4294967295, 4294967295, 4294967295, 4294967295, 4294967295},
+    {2097152, 268435455, 268435456, 4294967295, 4294967294, 2147483648, 2147483647, 65535},
+    {0, 0, 0, 0, 0, 0, 0, 0},
+    {127, 126, 64, 63, 127, 1, 0, 127},
+    {65536, 255, 256, 257, 129, 16385, 2097153, 268435457},
+    {1, 1, 1, 1, 0, 0, 0, 3},
+    {4, 4, 1, 8, 15, 15, 0, 1},
+};
+enum { TWELVE_BYTES = 199 };
+
+static void put_twelve(void) {
+    for (size_t k = 0; k < 12 * NUMBERS; k++) put_number(twelve[k / NUMBERS][k % NUMBERS]);
 }
 
 static void read_prefixes(void) {
@@ -325,10 +421,49 @@ static void read_long(void) {
     read_log(0, 0);
 }
 
+// A number: mostly of any count of bits; or near the bounds between counts of bytes.
+static uint32_t any_number(void) {
+    static const uint32_t bounds[] = {0, 1u << 7, 1u << 14, 1u << 21, 1u << 28};
+    switch (below(4)) {
+    case 0: return below(64);
+    case 1: return bounds[below(5)] + below(3) - 1;
+    default: return (uint32_t)((draw() >> 32) >> below(32));
+    }
+}
+
+static void damage(void) {
+    static const uint8_t fifths[] = {0, 1, 14, 15, 16, 17, 31, 32, 127, 128, 143, 144, 255};
+    size_t at = below((uint32_t)len + 1), in = below((uint32_t)len);
+    switch (below(7)) {
+    case 0: len = at; break;
+    case 1: if (len) log[in] = (uint8_t)draw(); break;
+    case 2: if (len) log[in] ^= 128; break;
+    case 3: if (len) log[in] ^= (uint8_t)(1 << below(8)); break;
+    case 4: insert(at, (uint8_t)draw()); break;
+    case 5:  // a number gets a byte more, which is zero
+        while (in < len && log[in] > 127) in++;
+        if (in == len) break;
+        log[in] |= 128;
+        insert(in + 1, 0);
+        break;
+    case 6:  // four bytes that go on, and a fifth
+        insert(at, fifths[below(sizeof fifths)]);
+        for (int k = 0; k < 4; k++) insert(at, (uint8_t)(128 | draw()));
+        break;
+    }
+}
+
+// A log of at most four reports, without damage or with some; one in sixteen is any bytes.
 static void read_random(void) {
     part = RANDOM;
     len = 0;
-    put_random();
+    if (below(16)) {
+        for (uint32_t numbers = NUMBERS * below(5); numbers > 0; numbers--) put_number(any_number());
+        if (below(3)) for (uint32_t times = 1 + below(2); times > 0; times--) damage();
+    } else {
+        uint8_t top = (uint8_t)(below(2) << 7), low = below(2) ? 127 : 15;
+        for (uint32_t bytes = below(64); bytes > 0; bytes--) put((uint8_t)(draw() & (low | (below(4) ? 128 : top))));
+    }
     size_t from = below((uint32_t)len + 1);
     read_log(from, from + 1);
 }
@@ -345,6 +480,20 @@ static void forget(void) {
 
 // No outcome of random logs is to be rarer than one step in RAREST. So many logs are read by each reader with a fault.
 enum { RAREST = 50, FAULTY = 1000 };
+static uint32_t passed, failed;
+
+// Counts a test, and gives what is printed of it.
+static const char *test(int holds) {
+    if (holds) passed++;
+    else failed++;
+    return holds ? "" : " FAILED";
+}
+
+static uint64_t decimal(const char *text) {
+    uint64_t x = 0;
+    for (; *text >= '0' && *text <= '9'; text++) x = 10 * x + (uint64_t)(*text - '0');
+    return x;
+}
 
 int main(int arguments, char **argument) {
     if (arguments != 3) {

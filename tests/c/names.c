@@ -1,5 +1,5 @@
-// Holds what the header names against what the functions answer: the version, the sizes, the mask bytes, the refusals, the
-// kinds and faults of a step of a log, and the refusals of its writer.
+// Holds what the header names against what the functions answer: the version, the sizes, the mask bytes, the refusals, and
+// the kinds and faults of a step of a log.
 //
 // The last line is `N passed, M failed`; the exit status is 0 only if M is 0.
 // Freestanding: of the C library only printf.
@@ -136,32 +136,6 @@ static void log_steps(void) {
     }
 }
 
-// What the writer of a log refuses, by how many numbers it is given and how much room.
-static const struct {
-    const char *what;
-    size_t numbers, room;
-    uint32_t refusal;
-    uint64_t reports, next;
-} writes[] = {
-    {"two reports written", 16, 16, 0, 2, 16},
-    {"LOG_NO_ROOM", 16, 15, ASPENFLICK_LOG_NO_ROOM, 1, 8},
-    {"LOG_NUMBERS_LEFT", 15, 16, ASPENFLICK_LOG_NUMBERS_LEFT, 1, 8},
-};
-
-static void log_writes(void) {
-    static const uint32_t numbers[16] = {2, 1, 1, 1, 1, 0, 0, 1, 2, 1, 1, 2, 7, 0, 1, 0};
-    uint8_t out[ASPENFLICK_MOST_REPORT_BYTES + 1];
-    for (size_t k = 0; k < sizeof writes / sizeof writes[0]; k++) {
-        size_t room = writes[k].room;
-        aspenflick_reports_written w = aspenflick_log_write_all(numbers, writes[k].numbers, out, room, 0);
-        check(w.refusal == writes[k].refusal && w.reports == writes[k].reports && w.next == writes[k].next, writes[k].what);
-    }
-    const uint32_t most = ~0u, bytes = ASPENFLICK_MOST_REPORT_BYTES;
-    const aspenflick_report longest = {most, most, most, most, most, most, most, most};
-    check(aspenflick_log_write(longest, out, sizeof out, 0).next == bytes, "MOST_REPORT_BYTES");
-    check(aspenflick_log_write(longest, out, bytes - 1, 0).refusal == ASPENFLICK_LOG_NO_ROOM, "LOG_NO_ROOM of a report");
-}
-
 // The setting of each pair, the mask bytes that it needs and the largest sizes: a mask of another length is refused.
 static void sizes(void) {
     uint32_t ports = 0, layers = 0, entries = 0, bytes = 0, settings = 0;
@@ -201,7 +175,6 @@ int main(void) {
     check(aspenflick_version() == ASPENFLICK_VERSION, "the version of the header and the library");
     refusals();
     log_steps();
-    log_writes();
     sizes();
     printf("%d passed, %d failed\n", passed, failed);
     return failed != 0;

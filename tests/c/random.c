@@ -9,7 +9,9 @@
 // Freestanding: of the C library only printf, memcpy and memcmp.
 #include <stdio.h>
 #include "../../reference/baseline.h"
-#include "common.h"
+
+void *memcpy(void *, const void *, size_t);
+int memcmp(const void *, const void *, size_t);
 
 enum { PHASES, WEIGHTS, PANEL_PHASES, PANEL_WEIGHTS, FUNCTIONS };
 static const struct { const char *name; int panels, weights; } functions[FUNCTIONS] = {
@@ -29,6 +31,18 @@ enum { WIDTH = sizeof(uint16_t), MOST = 600, GUARD = 32, PLACES = 64, ROOM = PLA
 static int known(int function, uint32_t refusal) {
     return refusal <= REFUSALS && (refusal != ASPENFLICK_I14_RANGE || functions[function].panels);
 }
+
+// The generator is splitmix64.
+static uint64_t state;
+
+static uint64_t draw(void) {
+    uint64_t z = state += 0x9e3779b97f4a7c15;
+    z = (z ^ z >> 30) * 0xbf58476d1ce4e5b9;
+    z = (z ^ z >> 27) * 0x94d049bb133111eb;
+    return z ^ z >> 31;
+}
+
+static uint32_t below(uint32_t bound) { return (uint32_t)((draw() >> 32) * bound >> 32); }
 
 // What is asked in one call, but for the bits of the beam mask and the offsets. The lengths of the offsets and of the buffer
 // count 16-bit numbers. For the single panel Ng is 1 and the first number of i2 alone is given.
@@ -534,6 +548,21 @@ static void run(uint64_t count, int fault) {
         for (int k = 0; k < CHECKS; k++) failures[function][k] = 0;
         for (uint64_t number = 0; number < requests(function, count); number++) ask(function, number, fault);
     }
+}
+
+static uint32_t passed, failed;
+
+// Counts a test, and gives what is printed of it.
+static const char *test(int holds) {
+    if (holds) passed++;
+    else failed++;
+    return holds ? "" : " FAILED";
+}
+
+static uint64_t decimal(const char *text) {
+    uint64_t x = 0;
+    for (; *text >= '0' && *text <= '9'; text++) x = 10 * x + (uint64_t)(*text - '0');
+    return x;
 }
 
 int main(int arguments, char **argument) {

@@ -3,8 +3,6 @@
 use mathlib.Core.Path.{◌∙◌, sym}
 use Rattle.ground.specs.Unique.{Unique, UniqueLeft}
 use Rattle.plan.proofs.Answers.{one_answer}
-use Rattle.coding.proofs.Placed.{one_placing}
-use Rattle.log.proofs.Several.{all_one}
 use Rattle.aspenflick.proofs.aspenflick_version_3.Reads as version
 use Rattle.aspenflick.proofs.aspenflick_mask_bytes_3.Reads as mask-bytes
 use Rattle.aspenflick.proofs.aspenflick_phases_3.Reads as phases
@@ -12,8 +10,6 @@ use Rattle.aspenflick.proofs.aspenflick_weights_3.Reads as weights
 use Rattle.aspenflick.proofs.aspenflick_panel_phases_3.Reads as panel-phases
 use Rattle.aspenflick.proofs.aspenflick_panel_weights_3.Reads as panel-weights
 use Rattle.aspenflick.proofs.aspenflick_log_next_3.Reads as log-next
-use Rattle.aspenflick.proofs.aspenflick_log_write_3.Reads as log-write
-use Rattle.aspenflick.proofs.aspenflick_log_write_all_3.Reads as log-write-all
 
 pub aspenflick_version_unique : Unique version.Learnt
 aspenflick_version_unique k a r r' e e' p q = p ∙ sym q
@@ -35,9 +31,3 @@ aspenflick_panel_weights_unique k a r r' e e' = one_answer
 
 pub aspenflick_log_next_unique : Unique log-next.Learnt
 aspenflick_log_next_unique k a r r' e e' p q = p ∙ sym q
-
-pub aspenflick_log_write_unique : UniqueLeft log-write.Learnt (λ k e. e.1.0.now)
-aspenflick_log_write_unique k a r r' e e' = one_placing
-
-pub aspenflick_log_write_all_unique : UniqueLeft log-write-all.Learnt (λ k e. e.1.0.now)
-aspenflick_log_write_all_unique k a r r' e e' = all_one

@@ -1,5 +1,5 @@
 // Aspenflick for C: the precoder of a 5G NR Type I PMI report of TS 38.214, single-panel (5.2.2.2.1) or multi-panel
-// (5.2.2.2.2), or its refusal; and a reader and a writer of logs of such reports.
+// (5.2.2.2.2), or its refusal; and a reader of logs of such reports.
 //
 // A call answers any numbers, masks, offsets and lengths. It allocates nothing, takes less than 2,048 bytes of stack
 // (measured, not proved) and keeps no state, so several threads may call at once, each with an `out` of its own. A struct
@@ -62,20 +62,18 @@ ghost use Rattle.settings.specs.Settings.{is_setting, mask_bytes};
 ghost use Rattle.plan.specs.Answer.{PhasesLeft, WeightsLeft};
 ghost use Rattle.single.specs.Single.{single};
 ghost use Rattle.multi.specs.Panels.{panels};
-ghost use Rattle.coding.specs.Coding.{WritesReport};
 ghost use Rattle.log.specs.Log.{step_at};
-ghost use Rattle.log.specs.Writing.{WritesReports};
 ghost use Rattle.aspenflick.specs.Version.{version};
 
 // The version of the library. A struct, a parameter or a constant that changes makes the first number another, and every
 // function is linked by a name that ends with it: a program compiled with a header of another major number does not link.
 pub const VERSION_MAJOR: u32 = 3;
 
-pub const VERSION_MINOR: u32 = 1;
+pub const VERSION_MINOR: u32 = 0;
 
 pub const VERSION_PATCH: u32 = 0;
 
-// The largest sizes: ports, layers, numbers in `out` for phases and for weights, bytes of `mask`, bytes of a report in a log.
+// The largest sizes: ports, layers, numbers in `out` for phases and for weights, bytes of `mask`.
 pub const MOST_PORTS: u32 = 32;
 
 pub const MOST_LAYERS: u32 = 8;
@@ -85,8 +83,6 @@ pub const MOST_PHASES: u32 = 256;
 pub const MOST_WEIGHTS: u32 = 512;
 
 pub const MOST_MASK_BYTES: u32 = 32;
-
-pub const MOST_REPORT_BYTES: u32 = 40;
 
 // The refusals, in the order in which they are tried. The first that applies is given; the record's other numbers, those
 // of its beams among them, are then 0 and `out` stays as lent.
@@ -151,13 +147,6 @@ pub const FAULT_PADDED: u32 = 2;
 
 // a number's fifth byte is above 15; the place is that byte's
 pub const FAULT_LARGE: u32 = 3;
-
-// The refusals of what writes a log.
-// `out` has no room for the whole of the next report
-pub const LOG_NO_ROOM: u32 = 1;
-
-// after the last whole report fewer than eight numbers are left
-pub const LOG_NUMBERS_LEFT: u32 = 2;
 
 // The version of the library that is linked: 10000·major + 100·minor + patch, as in ASPENFLICK_VERSION.
 #[unsafe(no_mangle)]
@@ -255,34 +244,4 @@ pub extern "C" fn aspenflick_log_next_3(log: &[u8], from: usize) -> log::LogStep
     ensures { result ≡ step_at log.now from }
 {
     log::step_at(log, from)
-}
-
-// Writes a report into `out` from the place `from` on, in the form that `aspenflick_log_next` reads, and gives the place
-// behind it: 8 to 40 bytes. All other bytes stay as lent. Where there is no room for the whole report, a start past the end
-// among it, the refusal is ASPENFLICK_LOG_NO_ROOM, `next` is `from` and every byte stays as lent. The numbers are not judged.
-// The report of (2,1) above, written from the place 3 on, gives refusal 0 and next 11.
-#[unsafe(no_mangle)]
-pub extern "C" fn aspenflick_log_write_3(
-    r: report::Report,
-    out: &mut [u8],
-    from: usize,
-) -> log::LogWritten
-    ensures { WritesReport r from out.old result out.new }
-{
-    log::write(r, out, from)
-}
-
-// Writes several reports into `out`, one after the other, from the place `from` on. `numbers` has eight for each, in the
-// order of a report, so that an array of reports can be lent as it stands; `numbers_len` counts numbers. Where there is no
-// room for the whole of a report the refusal is ASPENFLICK_LOG_NO_ROOM: nothing of it is written, and those before it stand.
-// Where all reports are written and numbers are left, it is ASPENFLICK_LOG_NUMBERS_LEFT. `numbers` and `out` must not overlap.
-#[unsafe(no_mangle)]
-pub extern "C" fn aspenflick_log_write_all_3(
-    numbers: &[u32],
-    out: &mut [u8],
-    from: usize,
-) -> log::ReportsWritten
-    ensures { WritesReports numbers.now from out.old result out.new }
-{
-    log::write_all(numbers, out, from)
 }

@@ -8,7 +8,5 @@ pub mod All
 pub mod First
 pub mod Written
 pub mod Copied
-pub mod Adds
-pub mod Writes
 pub mod Unique
 pub mod Examples

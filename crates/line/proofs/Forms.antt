@@ -5,44 +5,42 @@ use mathlib.Core.List.{List, map}
 use Prim.Native.Nat.{ℕ, ◌≤◌}
 use lib.ListN.{length, length-map}
 use Rattle.report.specs.declared.Report.{Report}
-use Rattle.line.specs.declared.Bounds.{Bounds}
 use Rattle.line.specs.declared.Reading.{Reading}
 use Rattle.line.specs.declared.Reading.TheVariants.{Read, Unreadable}
 use Rattle.eight.specs.Numbers.{values_of, report_of}
 use Rattle.line.specs.Form.{value, Form, Reads}
 use Rattle.line.proofs.Scanned.{words, good, good_found, joined_found}
 
-module _ (most : Bounds) where
-  -- ---- a line that has the form is good, and its words are those that are found
+-- ---- a line that has the form is good, and its words are those that are found
 
-  form_found : {line : List ℕ} {r : Report} → Form most line r
-      → (good most 8 line ≡ true) × (map value (words most 8 line) ≡ values_of r)
-  form_found f =
-      let eight : length f.words ≡ 8 = sym (length-map f.words value) ∙ ap length f.values in
-      let found = rw (eight, ← f.joins) at (joined_found most f.words f.decimals) in
-      (found.0, ap (map value) found.1 ∙ f.values)
+form_found : {line : List ℕ} {r : Report} → Form line r
+    → (good 8 line ≡ true) × (map value (words 8 line) ≡ values_of r)
+form_found f =
+    let eight : length f.words ≡ 8 = sym (length-map f.words value) ∙ ap length f.values in
+    let found = rw (eight, ← f.joins) at (joined_found f.words f.decimals) in
+    (found.0, ap (map value) found.1 ∙ f.values)
 
-  -- ---- a line has the form if it is good
+-- ---- a line has the form if it is good
 
-  pub reads_report : (line : List ℕ) {r : Report} → length line ≤ most.bytes → good most 8 line ≡ true
-      → map value (words most 8 line) ≡ values_of r → Reads most line (Read r)
-  reads_report line h g e =
-      let found = good_found most 8 line g in
-      record { words = words most 8 line; decimals = found.0; values = e; joins = found.1; few = h }
+pub reads_report : (line : List ℕ) {r : Report} → length line ≤ 256 → good 8 line ≡ true
+    → map value (words 8 line) ≡ values_of r → Reads line (Read r)
+reads_report line h g e =
+    let found = good_found 8 line g in
+    record { words = words 8 line; decimals = found.0; values = e; joins = found.1; few = h }
 
-  -- and has none if it is not
-  pub reads_nothing : (line : List ℕ) → good most 8 line ≡ false → Reads most line Unreadable
-  reads_nothing line g r f = false≢true (sym g ∙ (form_found f).0)
+-- and has none if it is not
+pub reads_nothing : (line : List ℕ) → good 8 line ≡ false → Reads line Unreadable
+reads_nothing line g r f = false≢true (sym g ∙ (form_found f).0)
 
-  -- ---- a line has one reading
+-- ---- a line has one reading
 
-  -- a line stands for one report
-  pub form_one : {line : List ℕ} {r r' : Report} → Form most line r → Form most line r' → r ≡ r'
-  form_one f g = ap report_of (sym (form_found f).1 ∙ (form_found g).1)
+-- a line stands for one report
+pub form_one : {line : List ℕ} {r r' : Report} → Form line r → Form line r' → r ≡ r'
+form_one f g = ap report_of (sym (form_found f).1 ∙ (form_found g).1)
 
-  -- two readings of a line are one
-  pub reads_one : (line : List ℕ) (a a' : Reading) → Reads most line a → Reads most line a' → a ≡ a'
-  reads_one line (Read r) (Read r') p q = ap Read (form_one p q)
-  reads_one line (Read r) Unreadable p q = absurd (q r p)
-  reads_one line Unreadable (Read r) p q = absurd (p r q)
-  reads_one line Unreadable Unreadable p q = refl
+-- two readings of a line are one
+pub reads_one : (line : List ℕ) (a a' : Reading) → Reads line a → Reads line a' → a ≡ a'
+reads_one line (Read r) (Read r') p q = ap Read (form_one p q)
+reads_one line (Read r) Unreadable p q = absurd (q r p)
+reads_one line Unreadable (Read r) p q = absurd (p r q)
+reads_one line Unreadable Unreadable p q = refl

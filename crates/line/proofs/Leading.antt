@@ -12,7 +12,6 @@ use Rattle.ground.proofs.Booleans.{either, and_true_left, and_true_right}
 use Rattle.ground.specs.Cases.{◌⇒◌∣◌}
 use Rattle.ground.specs.Lists.{each}
 use Rattle.text.specs.Words.{nought, ending}
-use Rattle.line.specs.declared.Bounds.{Bounds}
 use Rattle.line.specs.Form.{is_digit, value, is_decimal}
 use Rattle.line.specs.Scan.{lead, next, is_ended}
 
@@ -81,11 +80,8 @@ lead_word (suc k) (b ∷ w) x bs d h n =
     rw (and_true_left (is_digit b) _ d)
     (ap (λ (y : List ℕ). b ∷ y) (lead_word k w x bs (and_true_right (is_digit b) _ d) (omega arith) n))
 
--- what leads is an ended decimal if it has a digit, is not too large, and is followed by what ends it
-pub ended_next : (most : Bounds) (bs : List ℕ) (left : ℕ) → is_ended most bs left
-    ≡ (leb 1 (length (next most bs)) && leb (value (next most bs)) most.number
-    && eqb (get_or bs (length (next most bs)) 0) (ending left))
+-- what leads is an ended decimal if it has a digit, is at most 65535, and is followed by what ends it
+pub ended_next : (bs : List ℕ) (left : ℕ) → is_ended bs left
+    ≡ (leb 1 (length (next bs)) && leb (value (next bs)) 65535 && eqb (get_or bs (length (next bs)) 0) (ending left))
 unfolding is_ended is_decimal
-ended_next most bs left =
-    let k = most.digits in
-    rw (lead_digits k bs, le-leb (length (next most bs)) k (lead_few k bs))
+ended_next bs left = rw (lead_digits 5 bs, le-leb (length (next bs)) 5 (lead_few 5 bs))

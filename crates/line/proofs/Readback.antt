@@ -13,10 +13,9 @@ use Rattle.ground.proofs.Booleans.{either, and_true_left, and_true_right}
 use Rattle.report.specs.declared.Report.{Report}
 use Rattle.text.specs.Words.{nought, digit, decimal_in, decimal, line_of}
 use Rattle.text.proofs.Words.{decimal_few, line_few}
-use Rattle.line.specs.declared.Bounds.{Bounds}
 use Rattle.line.specs.declared.Reading.TheVariants.{Read}
 use Rattle.eight.specs.Numbers.{values_of}
-use Rattle.line.specs.Form.{plain, listed, is_digit, value, value_after, is_decimal, Form, Reads}
+use Rattle.line.specs.Form.{is_digit, value, value_after, is_decimal, Reads}
 use Rattle.line.proofs.Scanned.{words, joined_found}
 
 -- ---- digit by digit
@@ -52,79 +51,49 @@ value_back (suc k) n h =
     either (ltb n 10) (λ t. rw t (omega (arith, ltb-true n 10 t)))
     (λ t. rw (t, value_next tenth (digit n) 0) (omega (arith, value_back k (n / 10) (omega arith))))
 
--- ---- within bounds
-
--- a line has room for eight numbers that are not too large, whatever they are
-record Ample (most : Bounds) : Type 0 where
-  some : 1 ≤ most.digits
-  digits : most.number < 10 ^ most.digits
-  known : most.number < 10 ^ 20
-  bytes : 8 * suc most.digits ≤ most.bytes
-
-plain_ample : Ample plain
-plain_ample = record { some = lit≤ tt; digits = lit≤ tt; known = lit≤ tt; bytes = lit≤ tt }
-
-listed_ample : Ample listed
-listed_ample = record { some = lit≤ tt; digits = lit≤ tt; known = lit≤ tt; bytes = lit≤ tt }
-
-module _ {most : Bounds} (ample : Ample most) where
-  -- a number that has the size of a line's is printed as a decimal of its value
-  decimal_reads : (n : ℕ) → n ≤ most.number → (is_decimal most (decimal n) ≡ true) × (value (decimal n) ≡ n)
-  unfolding is_decimal
-  decimal_reads n h =
-      let same = value_back 19 n (omega (arith, ample.known)) in (
-        rw (
-          digits_all 20 n,
-          le-leb 1 _ (digits_some 19 n),
-          le-leb _ most.digits (decimal_few most.digits n ample.some (omega (arith, ample.digits))),
-          same,
-          le-leb n most.number h,
-        ),
+-- a number that has the size of a line's is printed as a decimal of its value
+pub decimal_reads : (n : ℕ) → n ≤ 65535 → (is_decimal (decimal n) ≡ true) × (value (decimal n) ≡ n)
+unfolding is_decimal
+decimal_reads n h =
+    let same = value_back 19 n (omega arith) in (
+      rw (
+        digits_all 20 n,
+        le-leb 1 _ (digits_some 19 n),
+        le-leb _ 5 (decimal_few 5 n (lit≤ tt) (omega arith)),
         same,
-      )
+        le-leb n 65535 h,
+      ),
+      same,
+    )
 
-  -- ---- lines
+-- ---- lines
 
-  all_read : {xs : List ℕ} → All (λ x. x ≤ most.number) xs
-      → (each (is_decimal most) (map decimal xs) ≡ true) × (map value (map decimal xs) ≡ xs)
-  unfolding each
-  all_read all_nil = (refl, refl)
-  all_read (all_cons {x} h a) =
-      let first = decimal_reads x h in
-      let later = all_read a in
-      (rw first.0 later.0, rw (first.1, later.1))
-
-  -- the words of a line of numbers that is printed have their values
-  values_read : (xs : List ℕ) → All (λ x. x ≤ most.number) xs → map value (words most (length xs) (line_of xs)) ≡ xs
-  unfolding line_of
-  values_read xs a =
-      let read = all_read a in
-      rw (← length-map xs decimal, (joined_found most (map decimal xs) read.0).1) read.1
-
-  -- and the line of a report's numbers has their form
-  form_read : (r : Report) → All (λ x. x ≤ most.number) (values_of r) → Form most (line_of (values_of r)) r
-  unfolding line_of
-  form_read r a =
-      let read = all_read a in
-      let few = line_few most.digits ample.some (all_each (λ x h. omega (arith, ample.digits)) a) in
-      record {
-        words = map decimal (values_of r);
-        decimals = read.0;
-        values = read.1;
-        joins = refl;
-        few = omega (arith, few, ample.bytes);
-      }
-
--- ---- of both kinds of lines
+all_read : {xs : List ℕ} → All (λ x. x ≤ 65535) xs
+    → (each is_decimal (map decimal xs) ≡ true) × (map value (map decimal xs) ≡ xs)
+unfolding each
+all_read all_nil = (refl, refl)
+all_read (all_cons {x} h a) =
+    let first = decimal_reads x h in
+    let later = all_read a in
+    (rw first.0 later.0, rw (first.1, later.1))
 
 -- the words of a line of numbers that is printed have their values
-pub row_reads : (xs : List ℕ) → All (λ x. x ≤ 65535) xs → map value (words plain (length xs) (line_of xs)) ≡ xs
-row_reads = values_read plain_ample
+pub row_reads : (xs : List ℕ) → All (λ x. x ≤ 65535) xs → map value (words (length xs) (line_of xs)) ≡ xs
+unfolding line_of
+row_reads xs a =
+    let read = all_read a in
+    rw (← length-map xs decimal, (joined_found (map decimal xs) read.0).1) read.1
 
--- the line of a report's numbers is read as that report, if they are at most 65535
-pub report_reads : (r : Report) → All (λ x. x ≤ 65535) (values_of r) → Reads plain (line_of (values_of r)) (Read r)
-report_reads = form_read plain_ample
-
--- and as a line of a listing, if they have 32 bits
-pub listed_reads : (r : Report) → All (λ x. x < 2 ^ 32) (values_of r) → Reads listed (line_of (values_of r)) (Read r)
-listed_reads r a = form_read listed_ample r (all_each (λ x h. omega arith) a)
+-- and the line of a report's numbers is read as that report
+pub report_reads : (r : Report) → All (λ x. x ≤ 65535) (values_of r) → Reads (line_of (values_of r)) (Read r)
+unfolding line_of
+report_reads r a =
+    let read = all_read a in
+    let few = line_few 5 (lit≤ tt) (all_each (λ x h. omega arith) a) in
+    record {
+      words = map decimal (values_of r);
+      decimals = read.0;
+      values = read.1;
+      joins = refl;
+      few = omega (arith, few);
+    }

@@ -1,3 +1,3 @@
--- What the contracts cite: first those of the public functions, then those of the functions below it.
+-- What the contracts cite: first those of the public function, then those of the functions below it.
 pub mod Form
 pub mod Scan

@@ -3,14 +3,18 @@ ghost use Rattle.std.specs.Prelude.{◌≡◌, ◌&&◌, ◌+◌, ◌≤◌, ltb
 ghost use Rattle.line.specs.Form.{is_digit};
 ghost use Rattle.line.specs.Scan.{Leads, is_ended};
 
-use crate::Bounds;
-
 // A number that was read, and the place after its last digit.
 #[derive(Drop)]
 pub struct Number {
-    pub value: u64,
+    pub value: u32,
     pub end: usize,
 }
+
+// The most digits that a decimal has.
+const MOST_DIGITS: u32 = 5;
+
+// The largest number of a line.
+const LARGEST: u32 = 65535;
 
 // The byte at a place of a line; 0 past its end.
 fn byte_at(line: &[u8], at: usize) -> u8
@@ -33,16 +37,16 @@ fn is_digit(line: &[u8], at: usize, last: usize) -> bool
     b <= b'9'
 }
 
-// The digits from a place on, as many as a decimal has at most.
-pub fn leading(line: &[u8], from: usize, most: Bounds) -> Number
-    requires { (from ≤ 256) × (most.digits ≤ 10) }
-    ensures { Leads most (drop from line.now) from result × (result.end ≤ from + 10) }
+// The digits from a place on, at most five of them.
+pub fn leading(line: &[u8], from: usize) -> Number
+    requires { from ≤ 256 }
+    ensures { Leads (drop from line.now) from result × (result.end ≤ from + 5) }
 {
-    let last = from + most.digits;
-    let mut value: u64 = 0;
+    let last = from + MOST_DIGITS as usize;
+    let mut value = 0;
     let mut end = from;
     while is_digit(line, end, last) {
-        value = 10 * value + (byte_at(line, end) - b'0') as u64;
+        value = 10 * value + (byte_at(line, end) - b'0') as u32;
         end += 1;
     }
     Number {
@@ -53,15 +57,15 @@ pub fn leading(line: &[u8], from: usize, most: Bounds) -> Number
 
 // Whether a number that was read from a place on is a decimal, and is followed by what ends a word after which so many
 // are left.
-pub fn ends(line: &[u8], from: usize, n: Number, left: usize, most: Bounds) -> bool
-    requires { Leads most (drop from line.now) from n }
-    ensures { result ≡ is_ended most (drop from line.now) left }
+pub fn ends(line: &[u8], from: usize, n: Number, left: usize) -> bool
+    requires { Leads (drop from line.now) from n }
+    ensures { result ≡ is_ended (drop from line.now) left }
 {
     let end = n.end;
     if end == from {
         return false;
     }
-    if n.value > most.number {
+    if n.value > LARGEST {
         return false;
     }
     byte_at(line, end) == text::ending(left)

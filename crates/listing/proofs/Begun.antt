@@ -6,11 +6,12 @@ use mathlib.Core.List.{List, [], ◌++◌}
 use Prim.Native.Nat.{ℕ, ◌+◌, ◌-◌, ◌≤◌}
 use native.Mathlib.Omega.{arith}
 use lib.Dec.{leb}
-use lib.ListN.{length, take, drop, length-append}
+use lib.ListN.{length, take, drop, length-append, length-drop}
+use lib.Seq.{take_all}
 use borrow.Rule.Slice.PartMut.{put_mid}
-use Rattle.ground.specs.Lent.{Writes, Adds}
-use Rattle.ground.proofs.Adds.{adds_nothing, adds_then, adds_length}
-use Rattle.ground.proofs.Writes.{fits_written, written_all, writes_composed, adds_rest}
+use Rattle.text.specs.Text.{Writes, Adds}
+use Rattle.text.proofs.Adds.{adds_nothing, adds_part, adds_then, adds_length}
+use Rattle.text.proofs.Writes.{fits_written, written_all, writes_composed}
 use Rattle.listing.specs.Listing.{longest_line}
 
 -- the first k bytes of the array are the text
@@ -56,11 +57,17 @@ module _ {text line : List ℕ} {k : ℕ} (b : Begun text k line) where
   pub begun_then : {n : ℕ} {left : List ℕ} (more : List ℕ) → k + length more ≤ longest_line
       → Writes true more (take (longest_line - k) (drop k line)) n left
       → Begun (text ++ more) (k + n) (put_mid k (longest_line - k) line left)
-  begun_then more h w = record {
-    empty = b.empty;
-    full = b.full;
-    adds = adds_then b.adds (adds_rest more line k begun_full h w);
-  }
+  begun_then more h w =
+      let rest = take_all (longest_line - k) (drop k line) (rw length-drop (omega (arith, begun_full))) in
+      let room : length more ≤ length (drop k line) = rw length-drop (omega (arith, begun_full)) in
+      let written = rw rest at w in
+      let next = adds_part more line k (omega (arith, begun_full))
+      (rw (fits_written more (drop k line) room) at written.leaves) in
+      record {
+        empty = b.empty;
+        full = b.full;
+        adds = rw (written_all more (drop k line) room written, ← begun_full) (adds_then b.adds next);
+      }
 
   -- what stands is copied where it fits
   pub begun_put : {n : ℕ} {lent left : List ℕ} → Writes (leb k (length line)) (take k line) lent n left

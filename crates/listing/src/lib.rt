@@ -1,8 +1,8 @@
 // The lines of a listing of a log: reports, and what stands last.
 ghost use Rattle.std.specs.Prelude.{true};
-ghost use Rattle.ground.specs.Lent.{Writes};
 ghost use Rattle.text.specs.Words.{line_of};
-ghost use Rattle.listing.specs.Listing.{end_text, TellsEnd, fault_text};
+ghost use Rattle.text.specs.Text.{Writes};
+ghost use Rattle.listing.specs.Listing.{end_text, fault_text};
 
 // The bytes of the longest line: eight numbers, each of ten digits and what follows it. A buffer of so many has room for
 // every line.
@@ -30,13 +30,6 @@ pub fn end(out: &mut [u8]) -> usize
     ensures { Writes true end_text out.old result out.new }
 {
     text::put(b"end\n", 4, out)
-}
-
-// Whether a line is the one after the last report: `end` and a newline, and nothing else.
-pub fn is_end(line: &[u8]) -> bool
-    ensures { TellsEnd line.now result }
-{
-    check::same(line, b"end\n")
 }
 
 // Writes the line of a fault, its number and its place: number 2 at place 17 gives `fault 2 at 17` and a newline. Gives the

@@ -1,5 +1,5 @@
 -- Each public function of the crate has one outcome on every input: any two that its contract admits are equal, the answer
--- and, where there is one, the reader that is left or every byte of the buffer.
+-- and, where there is one, the reader that is left.
 use mathlib.Core.Path.{◌≡◌, sym, ap, ◌∙◌}
 use mathlib.Core.Bool.{true, false, true≢false}
 use mathlib.Core.List.{List}
@@ -8,9 +8,8 @@ use native.Mathlib.Omega.{arith}
 use lib.Dec.{ltb}
 use denote.Ref.{Bor}
 use borrow.Author.Tests.{ltb-true, ltb-false}
-use Rattle.ground.specs.Unique.{Unique, UniqueLeft}
+use Rattle.ground.specs.Unique.{Unique}
 use Rattle.ground.proofs.Booleans.{either}
-use Rattle.coding.proofs.Placed.{one_placing}
 use Rattle.log.specs.declared.Answer.{Answer}
 use Rattle.log.specs.declared.Contents.{Contents}
 use Rattle.log.specs.declared.LogStep.{LogStep}
@@ -18,12 +17,9 @@ use Rattle.log.specs.declared.Reader.{Reader}
 use Rattle.log.specs.declared.Taken.{Taken}
 use Rattle.log.specs.Answer.{step_of, Starts, Steps, Holds}
 use Rattle.log.proofs.Answers.{one_answer, one_next, kind_report}
-use Rattle.log.proofs.Several.{all_one}
 use Rattle.log.proofs.taken_at.Reads as taken_at
 use Rattle.log.proofs.reports_in.Reads as reports-in
 use Rattle.log.proofs.step_at.Reads as step-at
-use Rattle.log.proofs.write.Reads as write
-use Rattle.log.proofs.write_all.Reads as write-all
 
 one_taken : {t u : Taken} → step_of t.answer t.next ≡ step_of u.answer u.next → t ≡ u
 one_taken {t} {u} e = λ i. record {
@@ -56,12 +52,6 @@ one_holds {log} {c} {d} p q =
 
 pub reports_in_unique : Unique reports-in.Learnt
 reports_in_unique k a r r' e e' = one_holds
-
-pub write_unique : UniqueLeft write.Learnt (λ k e. e.1.0.now)
-write_unique k a r r' e e' = one_placing
-
-pub write_all_unique : UniqueLeft write-all.Learnt (λ k e. e.1.0.now)
-write_all_unique k a r r' e e' = all_one
 
 -- ---- a reader: what follows is said of the one record that is the whole contract of the function
 

@@ -3,12 +3,14 @@ use Rattle.std.specs.Prelude.{List, [], ◌∷◌, ◌++◌, ℕ, zero, suc, ltb
 use Rattle.ground.specs.Cases.{◌⇒◌∣◌}
 use Rattle.ground.specs.Lists.{along}
 use Rattle.report.specs.declared.Report.{Report}
-use Rattle.eight.specs.Numbers.{report_of}
-use Rattle.groups.specs.Number.{Found, value, fault, number_at}
-use Rattle.coding.specs.Coding.{coded}
+use Rattle.eight.specs.Numbers.{values_of, report_of}
+use Rattle.groups.specs.Number.{code, Found, value, fault, number_at}
 use Rattle.log.specs.declared.LogStep.{LogStep}
 
 -- ---- as it is written
+
+abbrev pub coded : Report → List ℕ
+coded r = along (values_of r) code
 
 abbrev pub log_of : List Report → List ℕ
 log_of rs = along rs coded

@@ -4,8 +4,8 @@ use mathlib.Core.List.{List}
 use Prim.Native.Nat.{ℕ, ◌≤◌}
 use native.Mathlib.Omega.{arith}
 use lib.ListN.{length}
-use Rattle.ground.proofs.Writes.{fits_written}
 use Rattle.text.specs.Text.{longest}
+use Rattle.text.proofs.Writes.{fits_written}
 use Rattle.text.proofs.Records.{record_few, unreadable_few}
 use Rattle.line.specs.declared.Reading.{Reading}
 use Rattle.line.specs.declared.Reading.TheVariants.{Read, Unreadable}

@@ -13,11 +13,9 @@ use borrow.Author.Tests.{ltb-false}
 use Rattle.ground.proofs.Booleans.{either, cond_each}
 use Rattle.ground.proofs.All.{all_each}
 use Rattle.ground.specs.Cases.{◌⇒◌∣◌}
-use Rattle.ground.specs.Lent.{Writes}
 use Rattle.ground.specs.Lists.{each, among, All, all_nil}
 use Rattle.ground.specs.First.{numbered, None}
 use Rattle.ground.proofs.First.{first_none}
-use Rattle.ground.proofs.Writes.{by_length, written_within}
 use Rattle.plan.specs.declared.Record.{Record}
 use Rattle.plan.specs.Offsets.{fed_matrix}
 use Rattle.plan.specs.Base.{doubled, base_matrix}
@@ -33,8 +31,9 @@ use Rattle.report.specs.declared.Report.{Report}
 use Rattle.single.specs.Plan.{plan}
 use Rattle.single.specs.Single.{order, single}
 use Rattle.single.proofs.Lawful.{single_lawful}
-use Rattle.text.specs.Text.{record_text, three_digits, printable}
+use Rattle.text.specs.Text.{record_text, three_digits, printable, Writes}
 use Rattle.text.proofs.Digits.{all_short}
+use Rattle.text.proofs.Writes.{by_length, written_within}
 use Rattle.text.proofs.Records.{text_before, text_refused, Limits, within_limits, record_some, unreadable_some}
 use Rattle.line.specs.declared.Reading.{Reading}
 use Rattle.line.specs.declared.Reading.TheVariants.{Read, Unreadable}

@@ -4,7 +4,6 @@ use mathlib.Core.Path.{◌≡◌, sym, ◌∙◌}
 use mathlib.Core.List.{List}
 use Prim.Native.Nat.{ℕ}
 use Rattle.ground.specs.Unique.{UniqueLeft}
-use Rattle.line.specs.Form.{plain}
 use Rattle.line.proofs.Forms.{reads_one}
 use Rattle.printer.specs.declared.Printed.{Printed}
 use Rattle.printer.specs.Prints.{Prints}
@@ -14,7 +13,7 @@ one_print : {line lent left left' : List ℕ} {given given' : Printed} → Print
     → Prints line lent given' left' → (given ≡ given') × (left ≡ left')
 one_print p q =
     let o = p.outcome in
-    let o' = rw (reads_one plain _ q.reading p.reading q.reads p.reads) at q.outcome in (
+    let o' = rw (reads_one _ q.reading p.reading q.reads p.reads) at q.outcome in (
       λ i. record {
         answer = (o.answers ∙ sym o'.answers) i;
         length = (o.writes.gives ∙ sym o'.writes.gives) i;

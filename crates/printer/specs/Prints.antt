@@ -1,7 +1,6 @@
 -- How the printing program answers: the record for a report, the text, and what a call gives and leaves.
 use Rattle.std.specs.Prelude.{◌≡◌, true, List, ℕ, eqb, replicate}
 use Rattle.ground.specs.Cases.{◌⇒◌∣◌}
-use Rattle.ground.specs.Lent.{is_written, Writes}
 use Rattle.plan.specs.declared.Record.{Record}
 use Rattle.plan.specs.Offsets.{fed_matrix}
 use Rattle.plan.specs.Answer.{Request, asked, planned, record_of, refusal}
@@ -9,14 +8,14 @@ use Rattle.settings.specs.Settings.{is_setting, ports, mask_bytes}
 use Rattle.report.specs.declared.Report.{Report}
 use Rattle.single.specs.Plan.{plan}
 use Rattle.single.specs.Single.{single}
-use Rattle.text.specs.Text.{record_text, unreadable_text}
+use Rattle.text.specs.Text.{record_text, unreadable_text, is_written, Writes}
 use Rattle.line.specs.declared.Reading.{Reading}
 use Rattle.line.specs.declared.Reading.TheVariants.{Read, Unreadable as Unread}
 use Rattle.printer.specs.declared.FirstLine.{FirstLine}
 use Rattle.printer.specs.declared.Answer.{Answer}
 use Rattle.printer.specs.declared.Answer.TheVariants.{Accepted, Refused, Unreadable, NoRoom}
 use Rattle.printer.specs.declared.Printed.{Printed}
-use Rattle.line.specs.Form.{plain, Reads}
+use Rattle.line.specs.Form.{Reads}
 
 -- the beam mask of a setting, all bits ones; a pair that is no setting has none
 unfoldable pub full_mask : ℕ → ℕ → List ℕ
@@ -64,5 +63,5 @@ pub record Outcome (reading : Reading) (lent : List ℕ) (given : Printed) (left
 
 pub record Prints (line lent : List ℕ) (given : Printed) (left : List ℕ) : Type 0 where
   pub reading : Reading
-  pub reads : Reads plain line reading
+  pub reads : Reads line reading
   pub outcome : Outcome reading lent given left

@@ -1,6 +1,6 @@
 // Prints the reports of the log on standard input, a line each, and then its end or its first fault; says on standard error
 // what could not be read or written.
-ghost use Rattle.std.specs.Prelude.{◌+◌, ◌^◌, ◌<◌, ◌≤◌, length};
+ghost use Rattle.std.specs.Prelude.{◌≡◌, ◌+◌, ◌-◌, ◌^◌, ◌<◌, ◌≤◌, length, take, drop};
 
 use libc::{STDERR_FILENO, STDIN_FILENO, STDOUT_FILENO};
 use log::Answer;
@@ -66,7 +66,7 @@ fn print_log(part: &mut [u8], lines: &mut [u8])
             print_last(part, held, next, before);
             return;
         }
-        ground::to_front(part, next, held);
+        to_front(part, next, held);
         held -= next;
         before += next as u64;
     }
@@ -87,6 +87,18 @@ fn read_once(rest: &mut [u8]) -> Input
     }
 }
 
+// Moves the bytes of a part from a place up to another to its front.
+fn to_front(part: &mut [u8], from: usize, to: usize)
+    requires { (from ≤ to) × (to ≤ length part.old) }
+    ensures { take (to - from) part.new ≡ take (to - from) (drop from part.old) }
+{
+    let mut i = from;
+    while i < to {
+        part[i - from] = part[i];
+        i += 1;
+    }
+}
+
 // The line of the report at a place of what is held, and the place behind it; that of nothing, and the same place, where
 // there is none.
 fn put_line(part: &[u8], held: usize, at: usize, out: &mut [u8]) -> Line
@@ -96,7 +108,7 @@ fn put_line(part: &[u8], held: usize, at: usize, out: &mut [u8]) -> Line
     let t = log::taken_at(&part[..held], at);
     let answer = t.answer;
     if let Answer::Read(r) = answer {
-        let numbers = eight::values_of(r);
+        let numbers = [r.n1, r.n2, r.mode, r.v, r.i11, r.i12, r.i13, r.i2];
         return Line {
             length: listing::numbers(numbers, out),
             next: t.next,

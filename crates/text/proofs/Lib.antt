@@ -1,4 +1,6 @@
 -- Laws that the proofs share, then theorems.
+pub mod Adds
+pub mod Writes
 pub mod Digits
 pub mod Words
 pub mod Lines

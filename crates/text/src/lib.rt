@@ -1,8 +1,7 @@
 // Text for answers, and what lines are made of, written into a lent buffer.
 ghost use Rattle.std.specs.Prelude.{◌≡◌, true, ◌≤◌, leb, length, take};
-ghost use Rattle.ground.specs.Lent.{Writes, Adds};
 ghost use Rattle.text.specs.Words.{ending, ended};
-ghost use Rattle.text.specs.Text.{longest, record_text, unreadable_text, three_digits, printable};
+ghost use Rattle.text.specs.Text.{longest, record_text, unreadable_text, three_digits, printable, Writes, Adds};
 
 use plan::Record;
 use turn::Part;

@@ -1,8 +1,7 @@
 // Writers: each puts its text from a place of a lent buffer on, and gives the place after it.
 ghost use Rattle.std.specs.Prelude.{◌≡◌, true, ◌++◌, ◌+◌, ◌*◌, ◌≤◌, length, take};
-ghost use Rattle.ground.specs.Lent.{Adds};
 ghost use Rattle.text.specs.Words.{decimal, ended};
-ghost use Rattle.text.specs.Text.{lines_of, ok_text, three_digits};
+ghost use Rattle.text.specs.Text.{lines_of, ok_text, three_digits, Adds};
 
 use plan::Record;
 use turn::Part;

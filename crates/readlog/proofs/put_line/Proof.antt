@@ -3,8 +3,8 @@ use mathlib.Core.Path.{sym}
 use native.Mathlib.Omega.{arith}
 use lib.Seq.{length-take-le}
 use borrow.Author.Rules.{rules}
-use Rattle.ground.proofs.Writes.{written_within}
 use Rattle.log.proofs.Counted.{taken_report}
+use Rattle.text.proofs.Writes.{written_within}
 use Rattle.readlog.proofs.put_line.Statement.{statement}
 use Rattle.readlog.proofs.put_line.Tie as tie
 
@@ -14,13 +14,14 @@ slice_aggregate_taken_at c = sym (length-take-le _ _ c.before.before.before.requ
 returns : tie.Need-returns
 returns c =
     let line = c.before.before.numbers in
-    let answer = c.before.before.before.before.before.before.answer.given.1 in
-    let t = c.before.before.before.before.before.before.before.before in
+    let answer = c.before.before.before.before.before.answer.given.1 in
+    let t = c.before.before.before.before.before.before.before in
     let ends = taken_report _ _ t.taken_at.result t.taken_at.ensures _ answer in
     let held = slice_aggregate_taken_at t.before in (
       omega (arith, written_within _ _ line.ensures, line.auto.1.0),
       omega (arith, ends.0),
-      omega (arith, ends.1, held),
+      omega
+          (arith, ends.1, held),
     )
 
 pub put_line_spec : {M : Type 1} → statement M
@@ -30,7 +31,6 @@ put_line_spec =
     slice_aggregate_taken_at
     (λ c κs. search rules)
     (λ c. search rules)
-    (λ c κs. search rules)
     (λ c κs. search rules)
     (λ c. search rules)
     returns

@@ -4,8 +4,8 @@ use mathlib.Core.Bool.{true}
 use native.Mathlib.Omega.{arith}
 use lib.Dec.{lit≤}
 use borrow.Author.Tests.{not-true, not-false}
-use Rattle.ground.proofs.Writes.{writes_nothing, writes_composed}
 use Rattle.text.specs.Text.{printable}
+use Rattle.text.proofs.Writes.{writes_nothing, writes_composed}
 use Rattle.text.proofs.answer.Statement.{statement}
 use Rattle.text.proofs.answer.Tie as tie
 

@@ -6,8 +6,8 @@ use native.Mathlib.Nat.{mul-le-mul}
 use native.Mathlib.Omega.{arith}
 use lib.Dec.{lit≤}
 use lib.ListN.{length}
-use Rattle.ground.proofs.Adds.{adds_then}
 use Rattle.text.specs.Text.{ok_text}
+use Rattle.text.proofs.Adds.{adds_then}
 use Rattle.text.proofs.Words.{ended_few}
 use Rattle.text.proofs.Lines.{ok_few, refused_words}
 use Rattle.text.proofs.Records.{text_accepted, text_refused, limits, phases_many, phases_short}

@@ -3,8 +3,8 @@
 use mathlib.Core.Path.{refl}
 use native.Mathlib.Omega.{arith}
 use lib.Dec.{lit≤}
-use Rattle.ground.proofs.Writes.{writes_composed}
 use Rattle.text.proofs.Words.{ended_few}
+use Rattle.text.proofs.Writes.{writes_composed}
 use Rattle.text.proofs.number.Statement.{statement}
 use Rattle.text.proofs.number.Tie as tie
 

@@ -1,6 +1,6 @@
 -- `put` meets its contract: what is copied is what is given.
 use native.Mathlib.Omega.{arith}
-use Rattle.ground.proofs.Writes.{writes_copy}
+use Rattle.text.proofs.Writes.{writes_copy}
 use Rattle.text.proofs.put.Statement.{statement}
 use Rattle.text.proofs.put.Tie as tie
 

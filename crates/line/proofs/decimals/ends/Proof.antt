@@ -16,23 +16,23 @@ use Rattle.line.proofs.decimals.ends.Tie as tie
 returns : tie.Need-returns
 returns c =
     let s = c.before.before in
-    let none = lt-leb 1 (length (next s.args.most (drop s.args.from s.args.line.now))) (omega (arith, s.requires.end)) in
-    rw (ended_next _ _ _, none)
+    let none = lt-leb 1 (length (next (drop s.args.from s.args.line.now))) (omega (arith, s.requires.end)) in
+    rw (ended_next _ _, none)
 
 returns-2 : tie.Need-returns-2
 returns-2 c =
-    let s = c.before.before.before.before.before in
-    let big = lt-leb (value (next s.args.most (drop s.args.from s.args.line.now))) s.args.most.number (omega (arith, s.requires.value)) in
-    rw (ended_next _ _ _, big, and_nothing _)
+    let s = c.before.before.before.before in
+    let big = lt-leb (value (next (drop s.args.from s.args.line.now))) 65535 (omega (arith, s.requires.value)) in
+    rw (ended_next _ _, big, and_nothing _)
 
 returns-3 : tie.Need-returns-3
 returns-3 c =
     let b = c.before in
-    let s = b.before.before.before.before.before.before in
+    let s = b.before.before.before.before.before in
     let bs : List ℕ = drop s.args.from s.args.line.now in
-    let some = le-leb 1 (length (next s.args.most bs)) (omega (arith, s.requires.end)) in
-    let few = le-leb (value (next s.args.most bs)) s.args.most.number (omega (arith, s.requires.value)) in
-    rw (b.byte_at.ensures, c.ending.ensures, ended_next s.args.most bs _, some, few, get_or-drop, s.requires.end)
+    let some = le-leb 1 (length (next bs)) (omega (arith, s.requires.end)) in
+    let few = le-leb (value (next bs)) 65535 (omega (arith, s.requires.value)) in
+    rw (b.byte_at.ensures, c.ending.ensures, ended_next bs _, some, few, get_or-drop, s.requires.end)
 
 pub ends_spec : {M : Type 1} → statement M
 ends_spec = tie.close (tie.spec returns returns-2 (λ c κs. tt) (λ c κs. tt) returns-3)

@@ -1,6 +1,5 @@
 -- `decimals::leading` meets its contract: at each turn the digits that are left complete the number and its end.
-use mathlib.Core.Path.{◌≡◌, refl, sym, ap, ◌∙◌}
-use mathlib.Core.List.{List}
+use mathlib.Core.Path.{◌≡◌, sym, ap, ◌∙◌}
 use Prim.Native.Nat.{ℕ, suc, ◌+◌, ◌-◌, ◌<◌, ◌≤◌, ◌^◌}
 use native.Mathlib.Nat.{pow-suc, one-le-pow, pow-le-pow_right}
 use native.Mathlib.Omega.{arith}
@@ -15,40 +14,45 @@ use Rattle.line.proofs.decimals.leading.Tie as tie
 abbrev invariant-loop : tie.invariant-loop
 invariant-loop line from last n₀ end₀ n end =
     (from ≤ end) × (end ≤ last) × (n < 10 ^ (end - from))
-    × (value_after n (lead (last - end) (drop end line)) ≡ value (lead (last - from) (drop from line)))
-    × (end + length (lead (last - end) (drop end line)) ≡ from + length (lead (last - from) (drop from line)))
+    × (value_after n (lead (last - end) (drop end line)) ≡ value (next (drop from line)))
+    × (end + length (lead (last - end) (drop end line)) ≡ from + length (next (drop from line)))
 
 abbrev decreases-loop : tie.decreases-loop
 decreases-loop line from last n₀ end₀ n end = last - end
 
 loop-holds : tie.Need-loop-init invariant-loop decreases-loop
 loop-holds c =
-    (omega arith, omega arith, one-le-pow _ 10 (omega arith), refl, refl)
+    let a = c.before.args in (
+      omega arith,
+      omega arith,
+      one-le-pow _ 10 (omega arith),
+      ap (λ (k : ℕ). value (lead k (drop a.from a.line.now))) (omega arith),
+      ap (λ (k : ℕ). a.from + length (lead k (drop a.from a.line.now))) (omega arith),
+    )
 
--- the byte is a digit, and the number before it has nine at most
+-- the byte is a digit, and the number before it has four at most
 known : (c : tie.Then1 invariant-loop decreases-loop)
     → let t = c.before.before in
-    let a = t.before.before.before.args in
-    let b = get_or a.line.now t.loop.end 0 in
-    (t.loop.end < a.from + a.most.digits) × (nought ≤ b) × (b ≤ nought + 9) × (t.loop.value < 10 ^ 9)
+    let b = get_or t.before.before.args.line.now t.loop.end 0 in
+    (t.loop.end < t.before.before.args.from + 5) × (nought ≤ b) × (b ≤ nought + 9) × (t.loop.value < 10 ^ 4)
 known c =
     let t = c.before.before in
-    let a = t.before.before.before.args in
+    let a = t.before.before.args in
     let digit = sym c.before.is_digit.ensures ∙ c.if1.true in
-    let d = digit_at (a.from + a.most.digits) t.loop.end (get_or a.line.now t.loop.end 0) digit in
-    let nine : t.loop.end - a.from ≤ 9 = omega (arith, d.0) in
-    let few = pow-le-pow_right {n = 10} (omega arith) nine in
+    let d = digit_at (a.from + 5) t.loop.end (get_or a.line.now t.loop.end 0) digit in
+    let four : t.loop.end - a.from ≤ 4 = omega (arith, d.0) in
+    let few = pow-le-pow_right {n = 10} (omega arith) four in
     (d.0, d.1, d.2, omega arith)
 
 loop-again : tie.Need-loop-preserved invariant-loop decreases-loop
 unfolding value_after
 loop-again c =
     let t = c.before.before.before in
-    let s = t.before.before.before in
+    let s = t.before.before in
     let l = t.loop in
     let b = c.byte_at in
     let taken = sym c.before.before.is_digit.ensures ∙ c.before.if1.true in
-    let more = rw taken at (lead_at (s.args.from + s.args.most.digits) l.end s.args.line.now) in
+    let more = rw taken at (lead_at (s.args.from + 5) l.end s.args.line.now) in
     let place : l.end + 1 - s.args.from ≡ suc (l.end - s.args.from) = omega arith in (
       omega arith,
       omega (arith, known c.before),
@@ -61,14 +65,10 @@ returns : tie.Need-returns invariant-loop decreases-loop
 unfolding value_after
 returns c =
     let t = c.before.before in
-    let s = t.before.before.before in
+    let s = t.before.before in
     let left = sym c.before.is_digit.ensures ∙ c.if1.false in
-    let none = rw left at (lead_at (s.args.from + s.args.most.digits) t.loop.end s.args.line.now) in
-    let bs : List ℕ = drop s.args.from s.args.line.now in
-    let all : s.args.from + s.args.most.digits - s.args.from ≡ s.args.most.digits = omega arith in
-    let end : t.loop.end ≡ s.args.from + length (lead (s.args.from + s.args.most.digits - s.args.from) bs) =
-    omega (arith, ap length none) in
-    (record { value = rw (none, all) at t.loop.invariant.3; end = rw all at end }, omega arith)
+    let none = rw left at (lead_at (s.args.from + 5) t.loop.end s.args.line.now) in
+    (record { value = rw none at t.loop.invariant.3; end = omega (arith, ap length none) }, omega arith)
 
 pub leading_spec : {M : Type 1} → statement M
 leading_spec =
@@ -76,6 +76,7 @@ leading_spec =
     (tie.spec
     invariant-loop
     decreases-loop
+    (λ c. omega arith)
     (λ c. omega arith)
     loop-holds
     (λ c κs. tt)

@@ -7,8 +7,8 @@ use native.Mathlib.Omega.{arith}
 use lib.ListN.{length, length-append, length-set}
 use borrow.Fn.Kinds.{In}
 use borrow.Fn.PlainCycle.{Measures, is, falls, and}
-use Rattle.ground.proofs.Adds.{adds_stores, adds_byte, adds_length}
 use Rattle.text.specs.Words.{digit, decimal as decimals}
+use Rattle.text.proofs.Adds.{adds_stores, adds_byte, adds_length}
 use Rattle.text.proofs.Words.{decimal_one, decimal_more}
 use Rattle.text.proofs.write.decimal.Reads as decimal
 use Rattle.text.proofs.write.decimal.Kinds as decimal-kinds

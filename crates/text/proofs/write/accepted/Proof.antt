@@ -1,7 +1,7 @@
 -- `write::accepted` meets its contract: the word and P stand, and each number is written after what stands.
 use mathlib.Core.Path.{refl}
 use native.Mathlib.Omega.{arith}
-use Rattle.ground.proofs.Adds.{adds_then}
+use Rattle.text.proofs.Adds.{adds_then}
 use Rattle.text.proofs.Lines.{ok_words, ok_long}
 use Rattle.text.proofs.write.accepted.Statement.{statement}
 use Rattle.text.proofs.write.accepted.Tie as tie

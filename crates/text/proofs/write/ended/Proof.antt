@@ -1,7 +1,7 @@
 -- `write::ended` meets its contract: the byte is stored after the digits.
 use native.Mathlib.Omega.{arith}
 use lib.ListN.{length-set}
-use Rattle.ground.proofs.Adds.{adds_byte}
+use Rattle.text.proofs.Adds.{adds_byte}
 use Rattle.text.proofs.Words.{ended_long}
 use Rattle.text.proofs.write.ended.Statement.{statement}
 use Rattle.text.proofs.write.ended.Tie as tie

@@ -7,9 +7,9 @@ use native.Mathlib.Omega.{arith}
 use lib.Dec.{lit≤}
 use lib.ListN.{length, get_or}
 use borrow.Author.Rules.{rules}
-use Rattle.ground.specs.Lent.{Adds}
-use Rattle.ground.proofs.Adds.{adds_nothing, adds_then, adds_length}
 use Rattle.text.specs.Words.{ended}
+use Rattle.text.specs.Text.{Adds}
+use Rattle.text.proofs.Adds.{adds_nothing, adds_then, adds_length}
 use Rattle.text.proofs.Digits.{short_at}
 use Rattle.text.proofs.Words.{ended_few}
 use Rattle.text.proofs.Lines.{lines_begun, lines_all, width_some}

@@ -1,6 +1,6 @@
 -- `write::opened` meets its contract: the word is copied to its place, and then stands the number.
 use native.Mathlib.Omega.{arith}
-use Rattle.ground.proofs.Adds.{adds_copy, adds_then}
+use Rattle.text.proofs.Adds.{adds_copy, adds_then}
 use Rattle.text.proofs.write.opened.Statement.{statement}
 use Rattle.text.proofs.write.opened.Tie as tie
 

@@ -1,8 +1,8 @@
--- `read_within` meets its contract: at each turn the line is good if what is left of it is, and its numbers are those that are
+-- `read` meets its contract: at each turn the line is good if what is left of it is, and its numbers are those that are
 -- stored and those that are left.
 use mathlib.Core.Path.{◌≡◌, refl, sym, ap, ◌∙◌}
 use mathlib.Core.List.{List, ◌++◌, map, append-nil}
-use Prim.Native.Nat.{ℕ, suc, ◌+◌, ◌-◌, ◌*◌, ◌^◌, ◌<◌, ◌≤◌}
+use Prim.Native.Nat.{ℕ, suc, ◌+◌, ◌-◌, ◌*◌, ◌≤◌}
 use native.Mathlib.Numerals.{add-one}
 use native.Mathlib.Omega.{arith}
 use lib.ListN.{length, take, drop, length-set, drop_of_length-le}
@@ -11,18 +11,18 @@ use borrow.Author.Tests.{not-false, not-true}
 use Rattle.eight.specs.Numbers.{values_of}
 use Rattle.eight.proofs.Numbers.{values_of_eight}
 use Rattle.line.specs.Form.{value}
-use Rattle.line.proofs.Scanned.{words, good, rest_at, ended_few}
+use Rattle.line.proofs.Scanned.{words, good, rest_at}
 use Rattle.line.proofs.Forms.{reads_report, reads_nothing}
-use Rattle.line.proofs.read_within.Statement.{statement}
-use Rattle.line.proofs.read_within.Tie as tie
+use Rattle.line.proofs.read.Statement.{statement}
+use Rattle.line.proofs.read.Tie as tie
 
 abbrev invariant-loop : tie.invariant-loop
-invariant-loop line most values₀ at₀ j₀ values at j =
-    (j ≤ 8) × (at ≤ 11 * j) × (length values ≡ 8) × (good most 8 line ≡ good most (8 - j) (drop at line))
-    × (map value (words most 8 line) ≡ take j values ++ map value (words most (8 - j) (drop at line)))
+invariant-loop line values₀ at₀ j₀ values at j =
+    (j ≤ 8) × (at ≤ 6 * j) × (length values ≡ 8) × (good 8 line ≡ good (8 - j) (drop at line))
+    × (map value (words 8 line) ≡ take j values ++ map value (words (8 - j) (drop at line)))
 
 abbrev decreases-loop : tie.decreases-loop
-decreases-loop line most values₀ at₀ j₀ values at j = 8 - j
+decreases-loop line values₀ at₀ j₀ values at j = 8 - j
 
 returns : tie.Need-returns invariant-loop decreases-loop
 returns c r f = omega (arith, f.few)
@@ -39,28 +39,20 @@ returns-2 c =
     let l = c.before.before.before.before.loop in
     let not-ended = sym c.before.ends.ensures ∙ not-true _ c.if2.true in
     let so-many : 8 - l.j ≡ suc (7 - l.j) = omega arith in
-    reads_nothing _ _ (l.invariant.3 ∙ rw (so-many, not-ended))
-
--- a number that is ended has 32 bits
-fits : (c : tie.Else2 invariant-loop decreases-loop) → c.before.before.leading.result.value < 2 ^ 32
-fits c =
-    let e = c.before in
-    let ended = sym e.ends.ensures ∙ not-false _ c.if2.false in
-    omega (arith, ended_few _ _ _ ended, e.before.leading.ensures.0.value)
+    reads_nothing _ (l.invariant.3 ∙ rw (so-many, not-ended))
 
 loop-again : tie.Need-loop-preserved invariant-loop decreases-loop
 unfolding good words
 loop-again c =
-    let e = c.before.before in
+    let e = c.before in
     let t = e.before.before.before.before in
     let l = t.loop in
-    let a = t.before.before.before.before.args in
-    let line : List ℕ = a.line.now in
+    let line : List ℕ = t.before.before.before.args.line.now in
     let n = e.before.before.leading in
     let ended = sym e.before.ends.ensures ∙ not-false _ e.if2.false in
     let so-many : 8 - l.j ≡ suc (7 - l.j) = omega arith in
     let fewer : 8 - (l.j + 1) ≡ 7 - l.j = omega arith in
-    let later = rest_at a.most l.at line n.ensures.0.end in
+    let later = rest_at l.at line n.ensures.0.end in
     let numbers = rw (so-many, later, ← n.ensures.0.value) at l.invariant.4 in
     let stored = take-suc-set l.values l.j n.result.value (omega arith) in (
       omega arith,
@@ -75,25 +67,25 @@ unfolding good
 returns-3 c =
     let t = c.before.before in
     let l = t.loop in
-    let line : List ℕ = t.before.before.before.before.args.line.now in
+    let line : List ℕ = t.before.before.before.args.line.now in
     let none : 8 - l.j ≡ 0 = omega arith in
-    reads_nothing _ line (l.invariant.3 ∙ rw (none, drop-cons line l.at 0 (omega arith)))
+    reads_nothing line (l.invariant.3 ∙ rw (none, drop-cons line l.at 0 (omega arith)))
 
 returns-4 : tie.Need-returns-4 invariant-loop decreases-loop
 unfolding good words
 returns-4 c =
     let t = c.before.before.before in
     let l = t.loop in
-    let line : List ℕ = t.before.before.before.before.args.line.now in
+    let line : List ℕ = t.before.before.before.args.line.now in
     let none : 8 - l.j ≡ 0 = omega arith in
     let past : length line ≤ l.at = omega arith in
     let all = take_all l.j l.values (omega arith) in
     let values = ap values_of c.report-of.ensures ∙ values_of_eight l.values (omega arith) in
-    reads_report _ line (omega arith) (l.invariant.3 ∙ rw (none, drop_of_length-le line past))
+    reads_report line (omega arith) (l.invariant.3 ∙ rw (none, drop_of_length-le line past))
     (rw (none, append-nil, all) at l.invariant.4 ∙ sym values)
 
-pub read_within_spec : {M : Type 1} → statement M
-read_within_spec =
+pub read_spec : {M : Type 1} → statement M
+read_spec =
     tie.close
     (tie.spec
     invariant-loop
@@ -104,7 +96,6 @@ read_within_spec =
     (λ c. omega arith)
     ends_requires
     returns-2
-    (λ c. omega (arith, fits c.before))
     (λ c. omega arith)
     (λ c. omega arith)
     (λ c. omega arith)
