@@ -56,13 +56,15 @@
 //
 // Phases are whole numbers of 1/384 turns, 0 to 383. `offsets` has one for each of the P ports, in the order of the ports:
 // it is added to the port's phase in every layer, modulo a turn. Zeros leave the precoder as the standard prints it.
+#![tactic(auto)]
+
 ghost use Rattle.std.specs.Prelude.{◌≡◌};
 ghost use Rattle.ground.specs.Cases.{◌⇒◌∣◌};
 ghost use Rattle.settings.specs.Settings.{is_setting, mask_bytes};
 ghost use Rattle.plan.specs.Answer.{PhasesLeft, WeightsLeft};
 ghost use Rattle.single.specs.Single.{single};
 ghost use Rattle.multi.specs.Panels.{panels};
-ghost use Rattle.log.specs.Log.{step_at};
+ghost use Rattle.logs.specs.Log.{step_at};
 ghost use Rattle.aspenflick.specs.Version.{version};
 
 // The version of the library. A struct, a parameter or a constant that changes makes the first number another, and every
@@ -240,8 +242,8 @@ pub extern "C" fn aspenflick_panel_weights_3(
 // end of the log gives the end. (2,1) with mode 1, v = 1, i11 = 1, i2 = 1 and the rest 0 is 02 01 01 01 01 00 00 01; the
 // number 200 is C8 01.
 #[unsafe(no_mangle)]
-pub extern "C" fn aspenflick_log_next_3(log: &[u8], from: usize) -> log::LogStep
+pub extern "C" fn aspenflick_log_next_3(log: &[u8], from: usize) -> logs::LogStep
     ensures { result ≡ step_at log.now from }
 {
-    log::step_at(log, from)
+    logs::step_at(log, from)
 }

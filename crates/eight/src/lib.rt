@@ -1,4 +1,6 @@
 // A report as eight numbers, in the order in which lines and logs have them.
+#![tactic(auto)]
+
 ghost use Rattle.std.specs.Prelude.{◌≡◌};
 ghost use Rattle.eight.specs.Numbers.{report_of};
 

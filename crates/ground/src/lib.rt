@@ -1,4 +1,6 @@
 // What knows nothing of radio: filling a lent buffer.
+#![tactic(auto)]
+
 ghost use Rattle.ground.specs.Copied.{Copied};
 
 // Copies the first n bytes to the front of `out` and says so, where both have so many. Otherwise `out` stays as lent.

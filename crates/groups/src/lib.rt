@@ -1,4 +1,6 @@
 // Numbers in groups of seven bits, lowest group first, a byte each, the top bit set when another byte follows.
+#![tactic(auto)]
+
 ghost use Rattle.std.specs.Prelude.{◌≡◌};
 ghost use Rattle.groups.specs.Number.{is_padded, is_large, number_at};
 ghost use Rattle.groups.specs.Given.{number_of, place_of, found_of};

@@ -1,4 +1,6 @@
 // One line of text, read as a report.
+#![tactic(auto)]
+
 ghost use Rattle.line.specs.Form.{Reads};
 
 use report::Report;

@@ -1,4 +1,6 @@
 // The lines of a listing of a log: reports, and what stands last.
+#![tactic(auto)]
+
 ghost use Rattle.std.specs.Prelude.{true};
 ghost use Rattle.text.specs.Words.{line_of};
 ghost use Rattle.text.specs.Text.{Writes};

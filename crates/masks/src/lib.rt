@@ -1,4 +1,6 @@
 // The refusals that every codebook shares: the masks, the offsets, and the room in the lent buffer.
+#![tactic(auto)]
+
 ghost use Rattle.std.specs.Prelude.{◌≡◌, ◌+◌, ◌*◌, ◌≤◌, ltb, drop};
 ghost use Rattle.ground.specs.Cases.{◌⇒◌∣◌};
 ghost use Rattle.offsets.specs.Offsets.{unfit};

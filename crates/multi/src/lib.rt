@@ -1,4 +1,6 @@
 // A multi-panel report by its own numbers: the first refusal that needs nothing else, or its beams.
+#![tactic(auto)]
+
 ghost use Rattle.std.specs.Prelude.{◌≡◌};
 ghost use Rattle.multi.specs.Own.{own_of};
 

@@ -1,4 +1,6 @@
 // Offsets of ports: which lists are refused, and how a list is read. Knows no plan and no codebook.
+#![tactic(auto)]
+
 ghost use Rattle.std.specs.Prelude.{◌≡◌, leb};
 ghost use Rattle.ground.specs.Cases.{◌⇒◌∣◌};
 ghost use Rattle.offsets.specs.Offsets.{unfit, reduced};

@@ -1,4 +1,6 @@
 // The precoder of a multi-panel report, written into a lent buffer.
+#![tactic(auto)]
+
 ghost use Rattle.std.specs.Prelude.{◌≡◌};
 ghost use Rattle.plan.specs.Answer.{planned, asked, refusal, judged_by, PhasesLeft, WeightsLeft};
 ghost use Rattle.multi.specs.Panels.{plan, panels};

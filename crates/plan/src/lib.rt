@@ -1,4 +1,6 @@
 // What a precoder is made of, for any codebook, and what a call answers.
+#![tactic(auto)]
+
 ghost use Rattle.std.specs.Prelude.{◌≡◌};
 ghost use Rattle.plan.specs.Answer.{refused_by, accepted_as};
 

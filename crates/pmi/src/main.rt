@@ -1,5 +1,7 @@
 // Answers the line on standard input by text on standard output, and says on standard error what could not be read or
 // written.
+#![tactic(auto)]
+
 ghost use Rattle.std.specs.Prelude.{◌≤◌, length};
 
 use libc::{STDERR_FILENO, STDIN_FILENO, STDOUT_FILENO};

@@ -1,4 +1,6 @@
 // The precoder of a single-panel report, written into a lent buffer.
+#![tactic(auto)]
+
 ghost use Rattle.plan.specs.Answer.{PhasesLeft, WeightsLeft};
 ghost use Rattle.single.specs.Single.{single};
 

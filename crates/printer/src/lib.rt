@@ -1,4 +1,6 @@
 // A line of text, answered by text.
+#![tactic(auto)]
+
 ghost use Rattle.std.specs.Prelude.{◌≡◌, eqb};
 ghost use Rattle.ground.specs.Cases.{◌⇒◌∣◌};
 ghost use Rattle.line.specs.declared.Reading.TheVariants.{Read};

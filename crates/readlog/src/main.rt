@@ -1,9 +1,11 @@
 // Prints the reports of the log on standard input, a line each, and then its end or its first fault; says on standard error
 // what could not be read or written.
+#![tactic(auto)]
+
 ghost use Rattle.std.specs.Prelude.{◌≡◌, ◌+◌, ◌-◌, ◌^◌, ◌<◌, ◌≤◌, length, take, drop};
 
 use libc::{STDERR_FILENO, STDIN_FILENO, STDOUT_FILENO};
-use log::Answer;
+use logs::Answer;
 
 // No report is longer. Where so many bytes are left, they tell what stands at a place, whatever follows them
 // (crates/log/proofs/Parts.antt).
@@ -105,7 +107,7 @@ fn put_line(part: &[u8], held: usize, at: usize, out: &mut [u8]) -> Line
     requires { (held ≤ length part.now) × (at ≤ held) }
     ensures { (result.length ≤ length out.new) × (at ≤ result.next) × (result.next ≤ held) }
 {
-    let t = log::taken_at(&part[..held], at);
+    let t = logs::taken_at(&part[..held], at);
     let answer = t.answer;
     if let Answer::Read(r) = answer {
         let numbers = [r.n1, r.n2, r.mode, r.v, r.i11, r.i12, r.i13, r.i2];
@@ -166,7 +168,7 @@ fn put_last(part: &[u8], held: usize, at: usize, before: u64, out: &mut [u8]) ->
     requires { (held ≤ length part.now) × (before + held < 2 ^ 64) }
     ensures { result ≤ length out.new }
 {
-    let t = log::taken_at(&part[..held], at);
+    let t = logs::taken_at(&part[..held], at);
     let answer = t.answer;
     match answer {
         Answer::Read(_) => 0,

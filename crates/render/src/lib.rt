@@ -1,4 +1,6 @@
 // The layers of a drawing, as phases or as weights, in a lent buffer. Knows no report and no codebook.
+#![tactic(auto)]
+
 ghost use Rattle.std.specs.Prelude.{◌≡◌, length, take};
 ghost use Rattle.ground.specs.Lists.{over};
 ghost use Rattle.render.specs.Rendered.{fitting, weighed_in, weights_in};

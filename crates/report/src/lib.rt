@@ -1,4 +1,6 @@
 // A single-panel report by its own numbers: the first refusal that needs nothing else, or its beams.
+#![tactic(auto)]
+
 ghost use Rattle.std.specs.Prelude.{◌≡◌};
 ghost use Rattle.report.specs.Beams.{beams_of};
 

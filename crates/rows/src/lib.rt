@@ -1,4 +1,6 @@
 // The rows (k1,k2) for i13, decided by the columns of the standard's tables.
+#![tactic(auto)]
+
 ghost use Rattle.std.specs.Prelude.{◌≡◌, [], ◌∷◌, get_or};
 ghost use Rattle.settings.specs.Ranges.{beam, k_two, k_three};
 

@@ -1,4 +1,6 @@
 // The settings (N1,N2) of the single-panel codebook, and how many values each index has.
+#![tactic(auto)]
+
 ghost use Rattle.std.specs.Prelude.{◌≡◌, ◌≤◌};
 ghost use Rattle.ground.specs.Cases.{◌⇒◌∣◌};
 ghost use Rattle.settings.specs.Settings.{is_setting, down, mask_bytes, sizes_of};

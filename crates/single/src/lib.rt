@@ -1,4 +1,6 @@
 // The Type I single-panel codebook: its definitions, and the layers of a rank.
+#![tactic(auto)]
+
 ghost use Rattle.std.specs.Prelude.{◌≡◌};
 ghost use Rattle.single.specs.Drawing.{whole_lineup, half_lineup};
 

@@ -1,4 +1,6 @@
 // Prints the table of weights, one line for each phase: the phase, x and y.
+#![tactic(auto)]
+
 ghost use Rattle.std.specs.Prelude.{◌≡◌, nat_abs};
 
 use libc::STDOUT_FILENO;

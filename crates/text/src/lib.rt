@@ -1,4 +1,6 @@
 // Text for answers, and what lines are made of, written into a lent buffer.
+#![tactic(auto)]
+
 ghost use Rattle.std.specs.Prelude.{◌≡◌, true, ◌≤◌, leb, length, take};
 ghost use Rattle.text.specs.Words.{ending, ended};
 ghost use Rattle.text.specs.Text.{longest, record_text, unreadable_text, three_digits, printable, Writes, Adds};

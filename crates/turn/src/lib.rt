@@ -1,4 +1,6 @@
 // Phases, counted in parts of a turn and always reduced modulo a turn; and beams by their numbers.
+#![tactic(auto)]
+
 ghost use Rattle.std.specs.Prelude.{◌≡◌, ◌+◌, ◌*◌};
 ghost use Rattle.turn.specs.Phase.{quarter, eighth, phase};
 

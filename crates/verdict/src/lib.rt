@@ -1,4 +1,6 @@
 // Single-panel reports, judged: the first refusal that applies, or what is to be written.
+#![tactic(auto)]
+
 ghost use Rattle.std.specs.Prelude.{◌≡◌, false, ◌+◌, ◌*◌, ◌≤◌};
 ghost use Rattle.masks.specs.Asks.{Asks};
 ghost use Rattle.plan.specs.Answer.{planned, asked, refusal, judged_by};

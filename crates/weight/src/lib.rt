@@ -1,4 +1,5 @@
 // The weight of one port in one layer. Its table is a definition (specs/Table.antt); crate `lookup` has it in code.
+#![tactic(auto)]
 
 // A weight: real part x and imaginary part y.
 #[derive(Drop)]

@@ -1,4 +1,6 @@
 // The matrix of a plan, written into a lent buffer. Knows no report and no codebook.
+#![tactic(auto)]
+
 ghost use Rattle.std.specs.Prelude.{◌≡◌, ◌&&◌, ◌*◌, leb, length};
 ghost use Rattle.ground.specs.Cases.{◌⇒◌∣◌};
 ghost use Rattle.offsets.specs.Offsets.{Low};

@@ -3,7 +3,7 @@ use mathlib.Core.Path.{sym}
 use native.Mathlib.Omega.{arith}
 use lib.Seq.{length-take-le}
 use borrow.Author.Rules.{rules}
-use Rattle.log.proofs.Counted.{taken_fault}
+use Rattle.logs.proofs.Counted.{taken_fault}
 use Rattle.text.proofs.Writes.{written_within}
 use Rattle.readlog.proofs.put_last.Statement.{statement}
 use Rattle.readlog.proofs.put_last.Tie as tie

@@ -1,7 +1,9 @@
 // A log of reports: a plain run of numbers, eight to a report, each in groups of seven bits.
+#![tactic(auto)]
+
 ghost use Rattle.std.specs.Prelude.{◌≡◌};
-ghost use Rattle.log.specs.Log.{step_at};
-ghost use Rattle.log.specs.Answer.{is_report, step_of, Starts, Steps, Holds};
+ghost use Rattle.logs.specs.Log.{step_at};
+ghost use Rattle.logs.specs.Answer.{is_report, step_of, Starts, Steps, Holds};
 
 use groups::{Fault, Parsed};
 use report::Report;

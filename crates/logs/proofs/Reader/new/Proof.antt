@@ -1,4 +1,4 @@
--- `log::Reader::new` meets its contract: a walk of its MIR, by hand. A `Reader` is made of the slice passed and 0, in the
+-- `logs::Reader::new` meets its contract: a walk of its MIR, by hand. A `Reader` is made of the slice passed and 0, in the
 -- result's local.
 -- A `&[u8]` is Copy, so what it owns is had twice: once for log at exit, and once inside the result, beside the facts of
 -- at.
@@ -37,13 +37,13 @@ use denote.Triple.Spec.{Meets, triple_of}
 use denote.Triple.Table.{entered}
 use denote.Triple.Walked.{says, Stays, stay_none_slice, walk_of, Goes-none_slice, Walks, ends_at, walked, walk_Meets}
 use denote.Exit.{yes}
-use Rattle.log.specs.declared.Reader.{Reader}
-use Rattle.log.specs.contracts.Reader as T
-use Rattle.log.proofs.Reader.TheLaws as T'
-use Rattle.log.specs.contracts.Reader.new.Key.{name as #log·Reader·new}
-use Rattle.log.specs.contracts.Reader.new as new
-use Rattle.log.proofs.Reader.new.Statement as stated
-use Rattle.log.proofs.Reader.new.Code as code
+use Rattle.logs.specs.declared.Reader.{Reader}
+use Rattle.logs.specs.contracts.Reader as T
+use Rattle.logs.proofs.Reader.TheLaws as T'
+use Rattle.logs.specs.contracts.Reader.new.Key.{name as #log·Reader·new}
+use Rattle.logs.specs.contracts.Reader.new as new
+use Rattle.logs.proofs.Reader.new.Statement as stated
+use Rattle.logs.proofs.Reader.new.Code as code
 
 abbrev stayed : Stays (new.ended).signature.params (new.ended).kept
 stayed = (stay_none_slice (0 ∷ []) tt (plain (λ _. u8)) yes, tt)

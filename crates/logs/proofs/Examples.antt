@@ -5,11 +5,11 @@ use Rattle.ground.specs.Lists.{join}
 use Rattle.report.specs.declared.Report.{Report}
 use Rattle.groups.specs.Number.{value, fault, code_in, code, is_padded, is_large, scan, number_at}
 use Rattle.groups.specs.declared.Fault.TheVariants.{Padded}
-use Rattle.log.specs.declared.Answer.TheVariants.{Faulty}
-use Rattle.log.specs.declared.Reader.{Reader}
-use Rattle.log.specs.Log.{coded, report_step, end_step, fault_step, after, takes, step_at}
-use Rattle.log.specs.Answer.{Steps}
-use Rattle.log.specs.Relied.{Runs, no_call, call_and}
+use Rattle.logs.specs.declared.Answer.TheVariants.{Faulty}
+use Rattle.logs.specs.declared.Reader.{Reader}
+use Rattle.logs.specs.Log.{coded, report_step, end_step, fault_step, after, takes, step_at}
+use Rattle.logs.specs.Answer.{Steps}
+use Rattle.logs.specs.Relied.{Runs, no_call, call_and}
 
 -- (2,1) with mode 1, one layer, i11 = 1, i2 = 1 and the rest 0
 abbrev pub first_report : Report

@@ -3,15 +3,15 @@ use mathlib.Core.Path.{◌≡◌, refl, sym, ap, ◌∙◌}
 use mathlib.Core.Bool.{false, true≢false}
 use mathlib.Core.List.{List, [], ◌∷◌}
 use lib.ListN.{length, replicate}
-use Rattle.log.specs.declared.Answer.{Answer}
-use Rattle.log.specs.declared.LogStep.{LogStep}
-use Rattle.log.specs.declared.Reader.{Reader}
-use Rattle.log.specs.Log.{step_at}
-use Rattle.log.specs.Answer.{is_report, Steps}
-use Rattle.log.specs.Relied.{Runs, no_call, call_and}
-use Rattle.log.proofs.Answers.{kind_report, step_next}
-use Rattle.log.proofs.Counted.{no_report_stays}
-use Rattle.log.proofs.Unique.{next_unique}
+use Rattle.logs.specs.declared.Answer.{Answer}
+use Rattle.logs.specs.declared.LogStep.{LogStep}
+use Rattle.logs.specs.declared.Reader.{Reader}
+use Rattle.logs.specs.Log.{step_at}
+use Rattle.logs.specs.Answer.{is_report, Steps}
+use Rattle.logs.specs.Relied.{Runs, no_call, call_and}
+use Rattle.logs.proofs.Answers.{kind_report, step_next}
+use Rattle.logs.proofs.Counted.{no_report_stays}
+use Rattle.logs.proofs.Unique.{next_unique}
 
 -- the reader stays
 no_report_leaves : {was is : Reader} {a : Answer} → is_report a ≡ false → Steps was a is → is ≡ was

@@ -3,13 +3,13 @@ use mathlib.Core.Path.{◌≡◌, sym, ap, ◌∙◌}
 use Prim.Native.Nat.{◌-◌}
 use native.Mathlib.Omega.{arith}
 use lib.ListN.{length}
-use Rattle.log.specs.declared.LogStep.{LogStep}
-use Rattle.log.specs.Log.{step_at}
-use Rattle.log.specs.Answer.{step_of, place_after}
-use Rattle.log.proofs.Counted.{Reported, none_reported, place_next, one_more, later}
-use Rattle.log.proofs.Answers.{report_kind, step_next}
-use Rattle.log.proofs.reports_in.Statement.{statement}
-use Rattle.log.proofs.reports_in.Tie as tie
+use Rattle.logs.specs.declared.LogStep.{LogStep}
+use Rattle.logs.specs.Log.{step_at}
+use Rattle.logs.specs.Answer.{step_of, place_after}
+use Rattle.logs.proofs.Counted.{Reported, none_reported, place_next, one_more, later}
+use Rattle.logs.proofs.Answers.{report_kind, step_next}
+use Rattle.logs.proofs.reports_in.Statement.{statement}
+use Rattle.logs.proofs.reports_in.Tie as tie
 
 abbrev invariant-loop : tie.invariant-loop
 invariant-loop log reports₀ last₀ reports last =

@@ -10,16 +10,16 @@ use denote.Ref.{Bor}
 use borrow.Author.Tests.{ltb-true, ltb-false}
 use Rattle.ground.specs.Unique.{Unique}
 use Rattle.ground.proofs.Booleans.{either}
-use Rattle.log.specs.declared.Answer.{Answer}
-use Rattle.log.specs.declared.Contents.{Contents}
-use Rattle.log.specs.declared.LogStep.{LogStep}
-use Rattle.log.specs.declared.Reader.{Reader}
-use Rattle.log.specs.declared.Taken.{Taken}
-use Rattle.log.specs.Answer.{step_of, Starts, Steps, Holds}
-use Rattle.log.proofs.Answers.{one_answer, one_next, kind_report}
-use Rattle.log.proofs.taken_at.Reads as taken_at
-use Rattle.log.proofs.reports_in.Reads as reports-in
-use Rattle.log.proofs.step_at.Reads as step-at
+use Rattle.logs.specs.declared.Answer.{Answer}
+use Rattle.logs.specs.declared.Contents.{Contents}
+use Rattle.logs.specs.declared.LogStep.{LogStep}
+use Rattle.logs.specs.declared.Reader.{Reader}
+use Rattle.logs.specs.declared.Taken.{Taken}
+use Rattle.logs.specs.Answer.{step_of, Starts, Steps, Holds}
+use Rattle.logs.proofs.Answers.{one_answer, one_next, kind_report}
+use Rattle.logs.proofs.taken_at.Reads as taken_at
+use Rattle.logs.proofs.reports_in.Reads as reports-in
+use Rattle.logs.proofs.step_at.Reads as step-at
 
 one_taken : {t u : Taken} → step_of t.answer t.next ≡ step_of u.answer u.next → t ≡ u
 one_taken {t} {u} e = λ i. record {

@@ -5,10 +5,10 @@ use native.Mathlib.Omega.{arith}
 use lib.ListN.{length, take, length-set}
 use borrow.Author.Rules.{rules}
 use Rattle.groups.specs.Given.{found_of}
-use Rattle.log.specs.Log.{takes, step_at}
-use Rattle.log.proofs.Taking.{step_end, step_begins, number_within, takes_fault, takes_all, takes_stored}
-use Rattle.log.proofs.taken_at.Statement.{statement}
-use Rattle.log.proofs.taken_at.Tie as tie
+use Rattle.logs.specs.Log.{takes, step_at}
+use Rattle.logs.proofs.Taking.{step_end, step_begins, number_within, takes_fault, takes_all, takes_stored}
+use Rattle.logs.proofs.taken_at.Statement.{statement}
+use Rattle.logs.proofs.taken_at.Tie as tie
 
 abbrev invariant-loop : tie.invariant-loop
 invariant-loop log from values₀ at₀ j₀ values at j =

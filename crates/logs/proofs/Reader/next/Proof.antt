@@ -49,25 +49,25 @@ use denote.Triple.Spec.{Meets, triple_of}
 use denote.Triple.Table.{entered, cited}
 use denote.Triple.Walked.{says, Stays, stay_ref, walk_of, Goes-ref, Walks, ends_at, walked, walk_Meets}
 use denote.Triple.Clauses.{ensured, lasts}
-use Rattle.log.specs.Log.{step_at}
-use Rattle.log.specs.Answer.{step_of}
-use Rattle.log.specs.declared.LogStep.{LogStep}
-use Rattle.log.specs.declared.Reader.{Reader}
-use Rattle.log.specs.declared.Taken.{Taken}
-use Rattle.log.specs.contracts.Reader as T
-use Rattle.log.proofs.Reader.TheLaws as T'
-use Rattle.log.specs.contracts.Taken as S
-use Rattle.log.proofs.Taken.TheLaws as S'
-use Rattle.log.specs.contracts.Answer as E
-use Rattle.log.proofs.Answer.TheLaws as E'
-use Rattle.log.specs.contracts.taken_at as taken_at
-use Rattle.log.proofs.taken_at.Symbol as taken-at-def
-use Rattle.log.proofs.taken_at.Symbol.{name as #log·taken-at}
-use Rattle.log.proofs.taken_at.Met as taken-at-thm
-use Rattle.log.specs.contracts.Reader.next.Key.{name as #log·Reader·next}
-use Rattle.log.specs.contracts.Reader.next as next
-use Rattle.log.proofs.Reader.next.Statement as stated
-use Rattle.log.proofs.Reader.next.Code as code
+use Rattle.logs.specs.Log.{step_at}
+use Rattle.logs.specs.Answer.{step_of}
+use Rattle.logs.specs.declared.LogStep.{LogStep}
+use Rattle.logs.specs.declared.Reader.{Reader}
+use Rattle.logs.specs.declared.Taken.{Taken}
+use Rattle.logs.specs.contracts.Reader as T
+use Rattle.logs.proofs.Reader.TheLaws as T'
+use Rattle.logs.specs.contracts.Taken as S
+use Rattle.logs.proofs.Taken.TheLaws as S'
+use Rattle.logs.specs.contracts.Answer as E
+use Rattle.logs.proofs.Answer.TheLaws as E'
+use Rattle.logs.specs.contracts.taken_at as taken_at
+use Rattle.logs.proofs.taken_at.Symbol as taken-at-def
+use Rattle.logs.proofs.taken_at.Symbol.{name as #log·taken-at}
+use Rattle.logs.proofs.taken_at.Met as taken-at-thm
+use Rattle.logs.specs.contracts.Reader.next.Key.{name as #log·Reader·next}
+use Rattle.logs.specs.contracts.Reader.next as next
+use Rattle.logs.proofs.Reader.next.Statement as stated
+use Rattle.logs.proofs.Reader.next.Code as code
 
 -- 'a, and the struct's type at it
 abbrev α : Lft → NamedLft
@@ -274,5 +274,5 @@ next_spec 𝓤 𝓛 𝓜 𝓡 =
     (tables 𝓤 𝓛.H 𝓜 𝓡 code.env).C (tables 𝓤 𝓛.H 𝓜 𝓡 code.env).Λ #log·Reader·next code.function (code.unfolded 𝓤 𝓛.H 𝓜 𝓡)
     (next_meets 𝓛 𝓜.mem 𝓡.run (tables_of 𝓤 𝓛.H 𝓜 (tables 𝓤 𝓛.H 𝓜 𝓡 code.env))
     (cited 𝓤 𝓛.H
-    (TakenAt 𝓛 𝓜.mem 𝓡.run) 𝓜 𝓡 code.env #log·taken-at taken-at-def.routine code.calls-log::taken-at
+    (TakenAt 𝓛 𝓜.mem 𝓡.run) 𝓜 𝓡 code.env #log·taken-at taken-at-def.routine code.calls-logs::taken-at
     (taken-at-thm.met 𝓤 𝓛 𝓜 𝓡)))

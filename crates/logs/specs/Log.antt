@@ -5,7 +5,7 @@ use Rattle.ground.specs.Lists.{along}
 use Rattle.report.specs.declared.Report.{Report}
 use Rattle.eight.specs.Numbers.{values_of, report_of}
 use Rattle.groups.specs.Number.{code, Found, value, fault, number_at}
-use Rattle.log.specs.declared.LogStep.{LogStep}
+use Rattle.logs.specs.declared.LogStep.{LogStep}
 
 -- ---- as it is written
 

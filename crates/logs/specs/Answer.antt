@@ -2,12 +2,12 @@
 use Rattle.std.specs.Prelude.{◌≡◌, Bool, true, false, List, ℕ, zero, suc, ◌<◌}
 use Rattle.std.specs.Borrow.{Bor}
 use Rattle.groups.specs.Given.{number_of, place_of}
-use Rattle.log.specs.declared.Answer.{Answer}
-use Rattle.log.specs.declared.Answer.TheVariants.{Read, End, Faulty}
-use Rattle.log.specs.declared.Contents.{Contents}
-use Rattle.log.specs.declared.LogStep.{LogStep}
-use Rattle.log.specs.declared.Reader.{Reader}
-use Rattle.log.specs.Log.{report_step, end_step, fault_step, step_at}
+use Rattle.logs.specs.declared.Answer.{Answer}
+use Rattle.logs.specs.declared.Answer.TheVariants.{Read, End, Faulty}
+use Rattle.logs.specs.declared.Contents.{Contents}
+use Rattle.logs.specs.declared.LogStep.{LogStep}
+use Rattle.logs.specs.declared.Reader.{Reader}
+use Rattle.logs.specs.Log.{report_step, end_step, fault_step, step_at}
 
 abbrev pub step_of : Answer → ℕ → LogStep
 step_of (Read r) next = report_step r next

@@ -4,11 +4,11 @@ use mathlib.Core.Bool.{true, false≢true}
 use Prim.Native.Nat.{ℕ}
 use native.Mathlib.Omega.{arith}
 use Rattle.groups.proofs.Unique.{one_fault}
-use Rattle.log.specs.declared.Answer.{Answer}
-use Rattle.log.specs.declared.Answer.TheVariants.{Read, End, Faulty}
-use Rattle.log.specs.declared.LogStep.{LogStep}
-use Rattle.log.specs.declared.Taken.{Taken}
-use Rattle.log.specs.Answer.{is_report, step_of}
+use Rattle.logs.specs.declared.Answer.{Answer}
+use Rattle.logs.specs.declared.Answer.TheVariants.{Read, End, Faulty}
+use Rattle.logs.specs.declared.LogStep.{LogStep}
+use Rattle.logs.specs.declared.Taken.{Taken}
+use Rattle.logs.specs.Answer.{is_report, step_of}
 
 pub report_kind : (a : Answer) (next : ℕ) → is_report a ≡ true → (step_of a next).kind ≡ 0
 report_kind (Read r) next e = refl

@@ -1,8 +1,8 @@
 -- `step_at` meets its contract: each case of the answer has its step.
 use borrow.Author.Rules.{rules}
-use Rattle.log.proofs.Answers.{in_case}
-use Rattle.log.proofs.step_at.Statement.{statement}
-use Rattle.log.proofs.step_at.Tie as tie
+use Rattle.logs.proofs.Answers.{in_case}
+use Rattle.logs.proofs.step_at.Statement.{statement}
+use Rattle.logs.proofs.step_at.Tie as tie
 
 returns : tie.Need-returns
 returns c =

@@ -13,13 +13,13 @@ use Rattle.groups.specs.declared.Fault.{Fault}
 use Rattle.groups.specs.Given.{place_of}
 use Rattle.groups.proofs.Bytes.{scan_bounds}
 use Rattle.groups.proofs.Faults.{scan_begun}
-use Rattle.log.specs.declared.Answer.TheVariants.{Read, Faulty}
-use Rattle.log.specs.declared.LogStep.{LogStep}
-use Rattle.log.specs.declared.Taken.{Taken}
-use Rattle.log.specs.Log.{takes, step_at}
-use Rattle.log.specs.Answer.{step_of, place_after}
-use Rattle.log.proofs.Answers.{in_case}
-use Rattle.log.proofs.Taking.{step_end, step_begins, takes_by}
+use Rattle.logs.specs.declared.Answer.TheVariants.{Read, Faulty}
+use Rattle.logs.specs.declared.LogStep.{LogStep}
+use Rattle.logs.specs.declared.Taken.{Taken}
+use Rattle.logs.specs.Log.{takes, step_at}
+use Rattle.logs.specs.Answer.{step_of, place_after}
+use Rattle.logs.proofs.Answers.{in_case}
+use Rattle.logs.proofs.Taking.{step_end, step_begins, takes_by}
 
 -- a report takes a byte for each of its numbers, and ends within the log
 module _ (log : List ℕ) (from : ℕ) where

@@ -12,10 +12,10 @@ use borrow.Author.Tests.{ltb-true, ltb-false}
 use Rattle.ground.proofs.Booleans.{either}
 use Rattle.groups.specs.Number.{Found, value, fault, is_padded, is_large, scan, number_at}
 use Rattle.groups.proofs.Bytes.{not_fifth, scan_bounds}
-use Rattle.log.specs.declared.LogStep.{LogStep}
-use Rattle.log.specs.Log.{after, takes, step_at}
-use Rattle.log.specs.Relied.{moved_by}
-use Rattle.log.proofs.Taking.{step_end, step_begins, takes_by}
+use Rattle.logs.specs.declared.LogStep.{LogStep}
+use Rattle.logs.specs.Log.{after, takes, step_at}
+use Rattle.logs.specs.Relied.{moved_by}
+use Rattle.logs.proofs.Taking.{step_end, step_begins, takes_by}
 
 -- ---- bytes after the last that is looked at
 

@@ -18,10 +18,10 @@ use Rattle.groups.specs.Number.{value, fault, code, number_at}
 use Rattle.groups.specs.Relied.{Below, Shows, ends, padded, large}
 use Rattle.groups.proofs.Coded.{number_reads, scan_stood, code_some}
 use Rattle.groups.proofs.Faults.{scan_begun, begun_scans}
-use Rattle.log.specs.declared.LogStep.{LogStep}
-use Rattle.log.specs.Log.{coded, report_step, fault_step, after, takes, step_at}
-use Rattle.log.specs.Relied.{Stands, Breaks, Tells, tells_report, tells_end, tells_fault}
-use Rattle.log.proofs.Taking.{step_end, step_begins, takes_fault, takes_by}
+use Rattle.logs.specs.declared.LogStep.{LogStep}
+use Rattle.logs.specs.Log.{coded, report_step, fault_step, after, takes, step_at}
+use Rattle.logs.specs.Relied.{Stands, Breaks, Tells, tells_report, tells_end, tells_fault}
+use Rattle.logs.proofs.Taking.{step_end, step_begins, takes_fault, takes_by}
 
 below_drop : {bound : ℕ} (xs : List ℕ) (n : ℕ) → Below bound xs → Below bound (drop n xs)
 below_drop [] zero h = h

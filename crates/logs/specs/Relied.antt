@@ -8,11 +8,11 @@ use Rattle.report.specs.declared.Report.{Report}
 use Rattle.eight.specs.Numbers.{values_of}
 use Rattle.groups.specs.Number.{code}
 use Rattle.groups.specs.Relied.{Below, Shows}
-use Rattle.log.specs.declared.Answer.{Answer}
-use Rattle.log.specs.declared.LogStep.{LogStep}
-use Rattle.log.specs.declared.Reader.{Reader}
-use Rattle.log.specs.Log.{coded, report_step, end_step, fault_step, step_at}
-use Rattle.log.specs.Answer.{Steps}
+use Rattle.logs.specs.declared.Answer.{Answer}
+use Rattle.logs.specs.declared.LogStep.{LogStep}
+use Rattle.logs.specs.declared.Reader.{Reader}
+use Rattle.logs.specs.Log.{coded, report_step, end_step, fault_step, step_at}
+use Rattle.logs.specs.Answer.{Steps}
 
 -- ---- one step
 

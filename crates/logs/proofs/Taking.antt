@@ -10,8 +10,8 @@ use borrow.Author.Tests.{lt-ltb, le-ltb}
 use Rattle.eight.specs.Numbers.{report_of}
 use Rattle.groups.specs.Number.{Found, value, fault, number_at}
 use Rattle.groups.proofs.Bytes.{scan_bounds}
-use Rattle.log.specs.declared.LogStep.{LogStep}
-use Rattle.log.specs.Log.{report_step, end_step, fault_step, after, takes, step_at}
+use Rattle.logs.specs.declared.LogStep.{LogStep}
+use Rattle.logs.specs.Log.{report_step, end_step, fault_step, after, takes, step_at}
 
 module _ (log : List ℕ) (at : ℕ) where
   pub step_end : length log ≤ at → step_at log at ≡ end_step at

@@ -8,11 +8,11 @@ use lib.ListN.{length, drop, length-drop, drop_of_length-le}
 use Rattle.ground.specs.Lists.{join}
 use Rattle.report.specs.declared.Report.{Report}
 use Rattle.groups.specs.Relied.{Below}
-use Rattle.log.specs.declared.LogStep.{LogStep}
-use Rattle.log.specs.Log.{coded, log_of}
-use Rattle.log.specs.Relied.{Stands, tells_report, HandsOut, no_more, one_and, AllFit}
-use Rattle.log.proofs.Taking.{step_end}
-use Rattle.log.proofs.Told.{behind, tells_step, report_stands, end_past}
+use Rattle.logs.specs.declared.LogStep.{LogStep}
+use Rattle.logs.specs.Log.{coded, log_of}
+use Rattle.logs.specs.Relied.{Stands, tells_report, HandsOut, no_more, one_and, AllFit}
+use Rattle.logs.proofs.Taking.{step_end}
+use Rattle.logs.proofs.Told.{behind, tells_step, report_stands, end_past}
 
 -- every report whose numbers have at most 32 bits can stand in a log, from any place on
 pub written_reads : (rs : List Report) (log : List ℕ) (at : ℕ) → drop at log ≡ log_of rs → AllFit rs → HandsOut log at rs
