@@ -37,7 +37,7 @@ or_false true b e = absurd (true≢false e)
 or_false false b e = (refl, e)
 
 pub or_nothing : (a : Bool) → a ≡ (a || false)
-or_nothing a = sym (mathlib.Core.Bool.or_false a)
+or_nothing a = sym (mathlib.Core.Bool.or-false a)
 
 pub and_true_left : (a b : Bool) → (a && b) ≡ true → a ≡ true
 and_true_left true b e = refl

@@ -65,6 +65,7 @@ pub eight_not_member : Member 8 sample → ⊥
 eight_not_member (member_first e) = omega arith
 eight_not_member (member_further (member_first e)) = omega arith
 eight_not_member (member_further (member_further (member_first e))) = omega arith
+eight_not_member (member_further (member_further (member_further x9))) = elim x9 [ ]
 
 -- 3, 7 and 9 stand there once
 pub sample_once : NoRepeats sample

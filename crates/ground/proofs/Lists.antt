@@ -125,6 +125,7 @@ module _ {A : Type 0} where
   unfolding some
   some_at found {xs = y ∷ ys} (member_first e) t = or_left (found y) (some found ys) (subst (λ (z : A). T (found z)) e t)
   some_at found {xs = y ∷ ys} (member_further m) t = or_right (found y) (some found ys) (some_at found m t)
+  some_at found {xs = []} x6 t = elim x6 [ ]
 
   pub member_some : (found : A → Bool) {x : A} → ((y : A) → T (found y) → x ≡ y) → (xs : List A) → T (some found xs)
       → Member x xs

@@ -47,10 +47,12 @@ three_once {A} {x} {y} {z} xy xz yz = once_cons first (once_cons second (once_co
 
     second : Member y (z ∷ []) → ⊥
     second (member_first e) = yz e
+    second (member_further x4) = elim x4 [ ]
 
     first : Member x (y ∷ z ∷ []) → ⊥
     first (member_first e) = xy e
     first (member_further (member_first e)) = xz e
+    first (member_further (member_further x7)) = elim x7 [ ]
 
 -- ---- along a list
 
@@ -64,6 +66,7 @@ listing_one {A} {P} x p = record { has = one; once = once_cons none once_nil }
   where
     one : (y : A) → Member y (x ∷ []) → P y
     one y (member_first e) = subst P (sym e) p
+    one y (member_further x4) = elim x4 [ ]
 
     none : Member x [] → ⊥
     none = elim [ ]
@@ -74,6 +77,7 @@ module _ {A B : Type 0} (f : A → List B) where
   unfolding join
   member_along {x} {y} (z ∷ xs) (member_first e) p = member_left (along xs f) (subst (λ (w : A). Member y (f w)) e p)
   member_along (z ∷ xs) (member_further m) p = member_right (f z) (member_along xs m p)
+  member_along {x = x} {y = y} [] x3 p = elim x3 [ ]
 
   member_of_along : {y : B} (xs : List A) → Member y (along xs f) → (x : A) × Member x xs × Member y (f x)
   unfolding join
@@ -81,6 +85,7 @@ module _ {A B : Type 0} (f : A → List B) where
     | inl p ↦ (x, member_first refl, p)
     | inr p ↦ let found = member_of_along xs p in (found.0, member_further found.1, found.2)
   ]
+  member_of_along {y = y} [] m = elim m [ ]
 
   -- what is listed once for each element, and tells which, is listed once along the list
   once_along : (key : B → A) {xs : List A} → NoRepeats xs
@@ -117,6 +122,7 @@ pub member_number : (k n : ℕ) {x : ℕ} → Member x (numbers_from k n) → (k
 unfolding numbers_from
 member_number k (suc n) (member_first e) = (omega arith, omega arith)
 member_number k (suc n) (member_further m) = let h = member_number (suc k) n m in (omega arith, omega arith)
+member_number k zero x3 = elim x3 [ ]
 
 pub numbers_once : (k n : ℕ) → NoRepeats (numbers_from k n)
 unfolding numbers_from

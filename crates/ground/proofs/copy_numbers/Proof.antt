@@ -6,31 +6,31 @@ use Rattle.ground.proofs.Copied.{CopiedTo, copied_none, too_few, no_room, copied
 use Rattle.ground.proofs.copy_numbers.Statement.{statement}
 use Rattle.ground.proofs.copy_numbers.Tie as tie
 
-abbrev invariant-loop : tie.invariant-loop
-invariant-loop numbers n to₀ k₀ to k = CopiedTo numbers n to₀ k to
+abbrev invariant-loop-k : tie.invariant-loop-k
+invariant-loop-k numbers n to₀ k₀ to k = CopiedTo numbers n to₀ k to
 
-abbrev decreases-loop : tie.decreases-loop
-decreases-loop numbers n to₀ k₀ to k = n - k
+abbrev decreases-loop-k : tie.decreases-loop-k
+decreases-loop-k numbers n to₀ k₀ to k = n - k
 
-loop-again : tie.Need-loop-preserved invariant-loop decreases-loop
+loop-again : tie.Need-loop-k-preserved invariant-loop-k decreases-loop-k
 loop-again c =
     let t = c.before in
     let few = t.before.before in
-    copied_next _ _ _ few.before.if1.false few.if2.false 0 t.before.loop.invariant t.loop-test.true
+    copied_next _ _ _ few.before.if-numbers-n.false few.if-to-n.false 0 t.before.loop-k.invariant t.loop-k-test.true
 
-returns-3 : tie.Need-returns-3 invariant-loop decreases-loop
+returns-3 : tie.Need-returns invariant-loop-k decreases-loop-k
 returns-3 c =
     let few = c.before.before in
-    copied_all _ _ _ few.before.if1.false few.if2.false c.before.loop.invariant c.loop-test.false
+    copied_all _ _ _ few.before.if-numbers-n.false few.if-to-n.false c.before.loop-k.invariant c.loop-k-test.false
 
 pub copy_numbers_spec : {M : Type 1} → statement M
 copy_numbers_spec =
     tie.close
     (tie.spec
-    invariant-loop
-    decreases-loop
-    (λ c. too_few _ _ _ c.if1.true)
-    (λ c. no_room _ _ _ c.if2.true)
+    invariant-loop-k
+    decreases-loop-k
+    (λ c. too_few _ _ _ c.if-numbers-n.true)
+    (λ c. no_room _ _ _ c.if-to-n.true)
     (λ c. copied_none _ _ _)
     (λ c. search rules)
     (λ c. omega arith)
@@ -39,5 +39,5 @@ copy_numbers_spec =
     (λ c. omega arith)
     (λ c. omega arith)
     loop-again
-    (λ c. c.before.loop.invariant.long)
+    (λ c. c.before.loop-k.invariant.long)
     returns-3)

@@ -15,39 +15,39 @@ use Rattle.offsets.proofs.Fit.{reaches, next_larger, next_smaller}
 use Rattle.offsets.proofs.is_unfit.Statement.{statement}
 use Rattle.offsets.proofs.is_unfit.Tie as tie
 
-abbrev invariant-loop : tie.invariant-loop
-invariant-loop ports offsets n largest₀ i₀ largest i = (i ≤ length offsets) × (leb turn largest ≡ reaches offsets i)
+abbrev invariant-loop-i : tie.invariant-loop-i
+invariant-loop-i ports offsets n largest₀ i₀ largest i = (i ≤ length offsets) × (leb turn largest ≡ reaches offsets i)
 
-abbrev decreases-loop : tie.decreases-loop
-decreases-loop ports offsets n largest₀ i₀ largest i = length offsets - i
+abbrev decreases-loop-i : tie.decreases-loop-i
+decreases-loop-i ports offsets n largest₀ i₀ largest i = length offsets - i
 
 -- they are not one for each port
-returns : tie.Need-returns invariant-loop decreases-loop
+returns : tie.Need-returns-then-n-ports invariant-loop-i decreases-loop-i
 unfolding unfit
 returns c =
     let a = c.before.args in
     rw (ne_eqb (length a.offsets.now) a.ports (λ e. omega arith))
 
-loop-holds : tie.Need-loop-init invariant-loop decreases-loop
+loop-holds : tie.Need-loop-i-init invariant-loop-i decreases-loop-i
 unfolding some
 loop-holds c = (omega arith, refl)
 
-loop-again : tie.Need-loop-preserved invariant-loop decreases-loop
+loop-again : tie.Need-loop-i-preserved invariant-loop-i decreases-loop-i
 loop-again c =
-    let l = c.before.before.before.loop in
+    let l = c.before.before.before.loop-i in
     let os = c.before.before.before.before.before.args.offsets.now in
     let within : l.i < length os = omega arith in (
       omega arith,
       ⊎_elim (λ w. ap (leb turn) w.1 ∙ next_larger _ _ _ within l.invariant.1 w.0.taken)
-          (λ w. ap (leb turn) w.1 ∙ next_smaller _ _ _ within l.invariant.1 w.0.left) c.if2.branch,
+          (λ w. ap (leb turn) w.1 ∙ next_smaller _ _ _ within l.invariant.1 w.0.left) c.if-largest-o.branch,
     )
 
-returns-2 : tie.Need-returns-2 invariant-loop decreases-loop
+returns-2 : tie.Need-returns invariant-loop-i decreases-loop-i
 unfolding unfit
 returns-2 c =
     let a = c.before.before.before.args in
     let os = a.offsets.now in
-    let l = c.before.loop in
+    let l = c.before.loop-i in
     let all : length os ≡ a.ports = omega arith in
     rw (eq-eqb _ _ all) (l.invariant.1 ∙ ap (some (leb turn)) (take_all l.i os (omega arith)))
 
@@ -55,8 +55,8 @@ pub is_unfit_spec : {M : Type 1} → statement M
 is_unfit_spec =
     tie.close
     (tie.spec
-    invariant-loop
-    decreases-loop
+    invariant-loop-i
+    decreases-loop-i
     returns
     loop-holds
     (λ c. search rules)

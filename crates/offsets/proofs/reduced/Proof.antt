@@ -8,37 +8,37 @@ use Rattle.offsets.proofs.Places.{read_to, read_none, read_next, Few, few, read_
 use Rattle.offsets.proofs.reduced.Statement.{statement}
 use Rattle.offsets.proofs.reduced.Tie as tie
 
-abbrev invariant-loop : tie.invariant-loop
-invariant-loop offsets n xs₀ i₀ xs i = (i ≤ n) × (xs ≡ read_to offsets i)
+abbrev invariant-loop-i : tie.invariant-loop-i
+invariant-loop-i offsets n xs₀ i₀ xs i = (i ≤ n) × (xs ≡ read_to offsets i)
 
-abbrev decreases-loop : tie.decreases-loop
-decreases-loop offsets n xs₀ i₀ xs i = n - i
+abbrev decreases-loop-i : tie.decreases-loop-i
+decreases-loop-i offsets n xs₀ i₀ xs i = n - i
 
 -- how many are read
-bounds : (c : tie.At-loop invariant-loop decreases-loop) → let s = c.before in
-    Few s.before.before.args.offsets.now s.at-most-32.result
-bounds c = few _ _ c.before.at-most-32.ensures
+bounds : (c : tie.At-loop-i invariant-loop-i decreases-loop-i) → let s = c.before in
+    Few s.before.before.args.offsets.now s.at_most_32-n.result
+bounds c = few _ _ c.before.at_most_32-n.ensures
 
-loop-holds : tie.Need-loop-init invariant-loop decreases-loop
+loop-holds : tie.Need-loop-i-init invariant-loop-i decreases-loop-i
 loop-holds c = (omega arith, read_none c.before.before.args.offsets.now)
 
-loop-again : tie.Need-loop-preserved invariant-loop decreases-loop
+loop-again : tie.Need-loop-i-preserved invariant-loop-i decreases-loop-i
 loop-again c =
     let t = c.before in
-    let l = t.before.loop in
-    (omega arith, read_next _ l.i (bounds t.before) l.invariant.1 t.loop-test.true)
+    let l = t.before.loop-i in
+    (omega arith, read_next _ l.i (bounds t.before) l.invariant.1 t.loop-i-test.true)
 
-returns : tie.Need-returns invariant-loop decreases-loop
+returns : tie.Need-returns invariant-loop-i decreases-loop-i
 returns c =
-    let l = c.before.loop in
-    read_all _ (bounds c.before) l.invariant.1 (le_antisymm l.invariant.0 c.loop-test.false)
+    let l = c.before.loop-i in
+    read_all _ (bounds c.before) l.invariant.1 (le_antisymm l.invariant.0 c.loop-i-test.false)
 
 pub reduced_spec : {M : Type 1} → statement M
 reduced_spec =
     tie.close
     (tie.spec
-    invariant-loop
-    decreases-loop
+    invariant-loop-i
+    decreases-loop-i
     (λ c κs. search rules)
     loop-holds
     (λ c. omega (arith, (bounds c.before).at_most))
