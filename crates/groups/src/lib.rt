@@ -6,7 +6,7 @@ ghost use Rattle.groups.specs.Number.{is_padded, is_large, number_at};
 ghost use Rattle.groups.specs.Given.{number_of, place_of, found_of};
 
 // What is wrong with a number, and the place of the byte that shows it.
-#[derive(Drop)]
+#[derive(Clone, Copy)]
 pub enum Fault {
     // The bytes end inside it, or before it; the place is that of the byte that is missing.
     Ends(usize),
@@ -17,7 +17,7 @@ pub enum Fault {
 }
 
 // What is read at a place: a number and the place after it, or a fault.
-#[derive(Drop)]
+#[derive(Clone, Copy)]
 pub enum Parsed {
     Number(u32, usize),
     Broken(Fault),

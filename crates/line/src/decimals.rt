@@ -4,7 +4,7 @@ ghost use Rattle.line.specs.Form.{is_digit};
 ghost use Rattle.line.specs.Scan.{Leads, is_ended};
 
 // A number that was read, and the place after its last digit.
-#[derive(Drop)]
+#[derive(Clone, Copy)]
 pub struct Number {
     pub value: u32,
     pub end: usize,

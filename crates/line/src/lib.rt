@@ -8,7 +8,7 @@ use report::Report;
 mod decimals;
 
 // What a line holds: the eight numbers of a report, or nothing of that form.
-#[derive(Drop)]
+#[derive(Clone, Copy)]
 pub enum Reading {
     Read(Report),
     Unreadable,

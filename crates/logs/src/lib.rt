@@ -9,7 +9,7 @@ use groups::{Fault, Parsed};
 use report::Report;
 
 // What a reader hands out: a report, the end, which stands between reports only, or what is wrong.
-#[derive(Drop)]
+#[derive(Clone, Copy)]
 pub enum Answer {
     Read(Report),
     End,
@@ -17,21 +17,21 @@ pub enum Answer {
 }
 
 // An answer, and the place from which the next is read: after a report behind it, otherwise the same.
-#[derive(Drop)]
+#[derive(Clone, Copy)]
 pub struct Taken {
     pub answer: Answer,
     pub next: usize,
 }
 
 // A log, and the place from which it is read on.
-#[derive(Drop)]
+#[derive(Clone, Copy)]
 pub struct Reader<'a> {
     log: &'a [u8],
     at: usize,
 }
 
 // How many reports stand in a log before its end or its first fault, and what comes after them.
-#[derive(Drop)]
+#[derive(Clone, Copy)]
 pub struct Contents {
     pub reports: usize,
     pub last: Taken,
@@ -42,7 +42,7 @@ pub struct Contents {
 // above 15, and place is that byte's, or the log's length for 1; otherwise both are 0. next is where the next step starts:
 // behind a report, and otherwise where this one did. The report's numbers are 0 unless there is one.
 #[repr(C)]
-#[derive(Drop)]
+#[derive(Clone, Copy)]
 pub struct LogStep {
     pub kind: u32,
     pub fault: u32,

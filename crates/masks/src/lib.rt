@@ -12,7 +12,7 @@ use turn::Part;
 // What a report asks for: the first of its codebook's own refusals that applies, or 0; the bytes of the beam mask; its
 // layers; its ports P and the entries v·P of its precoder; and how many beams the mask is asked for, one to four, how many
 // bits it has for each l, and l and m of each beam.
-#[derive(Drop)]
+#[derive(Clone, Copy)]
 pub struct Needs {
     pub refusal: u32,
     pub bytes: u32,

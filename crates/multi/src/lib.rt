@@ -13,7 +13,7 @@ mod rules;
 // A report of several panels: the setting (Ng,N1,N2), the codebook mode, the rank v, and the indices. Numbers of i14 and i2
 // that are not used are 0.
 #[repr(C)]
-#[derive(Drop)]
+#[derive(Clone, Copy)]
 pub struct PanelReport {
     pub ng: u32,
     pub n1: u32,
@@ -29,7 +29,7 @@ pub struct PanelReport {
 
 // What a report's own numbers say: the first of 1, 2, 4, 6 to 8, 12 and 9 that applies, and else 0; what one panel has,
 // zeros where (N1,N2) is no panel's; and where it is 0, B', reduced.
-#[derive(Drop)]
+#[derive(Clone, Copy)]
 pub struct Own {
     pub refusal: u32,
     pub sizes: Sizes,

@@ -11,7 +11,7 @@ use turn::{Beam, Part};
 // past the last layer are (0,0), and so are all of two ports. A true precoder is the entries divided by the square root of
 // the scale.
 #[repr(C)]
-#[derive(Drop)]
+#[derive(Clone, Copy)]
 pub struct Record {
     pub refusal: u32,
     pub ports: u32,
@@ -24,7 +24,7 @@ pub struct Record {
 // steps of up to four beams, x + 512·y for x parts of a turn from row to row and y from entry to entry; and up to eight
 // co-phases. The code of a layer is 512 times the place of its beam, 256 more where it takes the co-phases, and 2^q more
 // where half a turn is added to block q.
-#[derive(Drop)]
+#[derive(Clone, Copy)]
 pub struct Drawing {
     pub v: u32,
     pub pairs: u32,
@@ -36,14 +36,14 @@ pub struct Drawing {
 }
 
 // The layers of a report, each in its place of eight: its code, and its beam. Unused places have 0, and no beam.
-#[derive(Drop)]
+#[derive(Clone, Copy)]
 pub struct Lineup {
     pub codes: [u16; 8],
     pub beams: [Beam; 8],
 }
 
 // A report that has been judged: its record, and what is to be written where it is accepted.
-#[derive(Drop)]
+#[derive(Clone, Copy)]
 pub struct Judged {
     pub given: Record,
     pub drawing: Drawing,

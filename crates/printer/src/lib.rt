@@ -12,7 +12,7 @@ use plan::Record;
 use report::Report;
 
 // The numbers of the first line of a precoder's text: the ports P, the layers v and the scale v·P.
-#[derive(Drop)]
+#[derive(Clone, Copy)]
 pub struct FirstLine {
     pub ports: u32,
     pub layers: u32,
@@ -21,7 +21,7 @@ pub struct FirstLine {
 
 // How a line is answered: by a precoder, of which the first line is held, by a refusal, by the word that it has not the
 // form of a report, or, where fewer bytes are lent than the text has, by nothing.
-#[derive(Drop)]
+#[derive(Clone, Copy)]
 pub enum Answer {
     Accepted(FirstLine),
     Refused(u32),
@@ -30,7 +30,7 @@ pub enum Answer {
 }
 
 // An answer, and how many bytes of text stand in the lent buffer.
-#[derive(Drop)]
+#[derive(Clone, Copy)]
 pub struct Printed {
     pub answer: Answer,
     pub length: usize,

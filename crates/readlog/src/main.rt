@@ -15,21 +15,21 @@ const LONGEST_REPORT: usize = 40;
 const MOST_BYTES: u64 = 1 << 63;
 
 // How many bytes were read, and whether a read failed.
-#[derive(Drop)]
+#[derive(Clone, Copy)]
 struct Input {
     length: usize,
     failed: bool,
 }
 
 // How many bytes a line has, and the place behind its report.
-#[derive(Drop)]
+#[derive(Clone, Copy)]
 struct Line {
     length: usize,
     next: usize,
 }
 
 // The place behind the last report that is printed, and whether all of it was written.
-#[derive(Drop)]
+#[derive(Clone, Copy)]
 struct Printed {
     next: usize,
     whole: bool,

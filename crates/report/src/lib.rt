@@ -11,7 +11,7 @@ mod rules;
 
 // A report: the setting (N1,N2), the codebook mode, the rank v, and the indices.
 #[repr(C)]
-#[derive(Drop)]
+#[derive(Clone, Copy)]
 pub struct Report {
     pub n1: u32,
     pub n2: u32,
@@ -26,7 +26,7 @@ pub struct Report {
 // What a report's own numbers say: the first of 1, 2, 4 and 6 to 9 that applies, and else 0; what its setting needs; and
 // where it is 0, how many beams the report has, l and m of B, B', B'', B''', reduced, n of f(n), and whether its beams are
 // of half length. Unused places are 0.
-#[derive(Drop)]
+#[derive(Clone, Copy)]
 pub struct Beams {
     pub refusal: u32,
     pub ports: u32,

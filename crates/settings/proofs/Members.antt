@@ -53,6 +53,7 @@ module _ (mode : ℕ) where
   unfolding modes
   member_mode (member_first e) = rw e
   member_mode (member_further (member_first e)) = rw e
+  member_mode (member_further (member_further x6)) = elim x6 [ ]
 
 pub modes_once : NoRepeats modes
 unfolding modes some unlike

@@ -11,7 +11,7 @@ mod values;
 pub use values::{is_half_length, is_mode_two};
 
 // What follows from a setting: the ports P, N1·O1 and N2·O2, and the bytes of the beam mask. Zeros for a pair that is none.
-#[derive(Drop)]
+#[derive(Clone, Copy)]
 pub struct Sizes {
     pub ports: u32,
     pub across: u32,
@@ -21,7 +21,7 @@ pub struct Sizes {
 
 // What follows from the setting, and how many values each index has: 0 to one less is in range. The values are 0 where the
 // setting, the mode or the rank is none.
-#[derive(Drop)]
+#[derive(Clone, Copy)]
 pub struct Ranges {
     pub sizes: Sizes,
     pub i11: u32,

@@ -19,14 +19,14 @@ fn reduced(x: Part) -> Part
 
 // The beam (l,m), or a step from one beam to another.
 #[repr(C)]
-#[derive(Drop)]
+#[derive(Clone, Copy)]
 pub struct Beam {
     pub l: u32,
     pub m: u32,
 }
 
 // A phase. Functions that give one give it below a full turn; those that take one take any number of parts.
-#[derive(Drop)]
+#[derive(Clone, Copy)]
 pub struct Phase {
     pub parts: Part,
 }

@@ -2,7 +2,7 @@
 #![tactic(auto)]
 
 // A weight: real part x and imaginary part y.
-#[derive(Drop)]
+#[derive(Clone, Copy)]
 pub struct Weight {
     pub x: i16,
     pub y: i16,

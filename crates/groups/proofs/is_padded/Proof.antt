@@ -5,11 +5,11 @@ use Rattle.groups.specs.Number.{is_padded}
 use Rattle.groups.proofs.is_padded.Statement.{statement}
 use Rattle.groups.proofs.is_padded.Tie as tie
 
-returns : tie.Need-returns
+returns : tie.Need-returns-then-i-eq0
 unfolding is_padded
 returns c = rw (le-ltb 0 c.before.args.i (omega arith))
 
-returns-2 : tie.Need-returns-2
+returns-2 : tie.Need-returns
 unfolding is_padded
 returns-2 c = rw (lt-ltb 0 c.before.args.i (omega arith))
 

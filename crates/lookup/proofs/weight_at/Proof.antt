@@ -15,12 +15,12 @@ use Rattle.lookup.proofs.weight_at.Tie as tie
 returns : tie.Need-returns
 returns c =
     let e = c.before.before.before.args.e % 512 in
-    let pair = c.before.before.pair-at.ensures in
+    let pair = c.before.before.pair_at-pair.ensures in
     let fits = entry_fits e in
-    let x : c.before.signed.result ≡ (entry e).x =
-    c.before.signed.ensures ∙ ap (λ (n : ℕ). to_z w16 (n % 65536)) pair ∙ read_x (entry e) fits.0 in
-    let y : c.signed2.result ≡ (entry e).y =
-    c.signed2.ensures ∙ ap (λ (n : ℕ). to_z w16 (n / 65536)) pair ∙ read_y (entry e) fits.0 fits.1 in
+    let x : c.before.signed-x.result ≡ (entry e).x =
+    c.before.signed-x.ensures ∙ ap (λ (n : ℕ). to_z w16 (n % 65536)) pair ∙ read_x (entry e) fits.0 in
+    let y : c.signed-y.result ≡ (entry e).y =
+    c.signed-y.ensures ∙ ap (λ (n : ℕ). to_z w16 (n / 65536)) pair ∙ read_y (entry e) fits.0 fits.1 in
     one_weight (ap (λ (z : ℤ). to_z w16 (of_z w16 z)) x ∙ to_z-of_z fits.0)
     (ap (λ (z : ℤ). to_z w16 (of_z w16 z)) y ∙ to_z-of_z fits.1)
 

@@ -1,6 +1,5 @@
 -- `is_unfit` meets its contract: the largest of the offsets reaches a turn where one of them does.
 use mathlib.Core.Path.{◌≡◌, refl, ap, ◌∙◌}
-use mathlib.Core.Logic.{⊎_elim}
 use Prim.Native.Nat.{◌-◌, ◌<◌, ◌≤◌}
 use native.Mathlib.Omega.{arith}
 use lib.Dec.{leb}
@@ -14,6 +13,7 @@ use Rattle.offsets.specs.Offsets.{unfit}
 use Rattle.offsets.proofs.Fit.{reaches, next_larger, next_smaller}
 use Rattle.offsets.proofs.is_unfit.Statement.{statement}
 use Rattle.offsets.proofs.is_unfit.Tie as tie
+use Rattle.offsets.proofs.is_unfit.Lts.{then-largest-o, else-largest-o}
 
 abbrev invariant-loop-i : tie.invariant-loop-i
 invariant-loop-i ports offsets n largest₀ i₀ largest i = (i ≤ length offsets) × (leb turn largest ≡ reaches offsets i)
@@ -38,8 +38,10 @@ loop-again c =
     let os = c.before.before.before.before.before.args.offsets.now in
     let within : l.i < length os = omega arith in (
       omega arith,
-      ⊎_elim (λ w. ap (leb turn) w.1 ∙ next_larger _ _ _ within l.invariant.1 w.0.taken)
-          (λ w. ap (leb turn) w.1 ∙ next_smaller _ _ _ within l.invariant.1 w.0.left) c.if-largest-o.branch,
+      elim c.if-largest-o.branch [
+          then-largest-o w ↦ ap (leb turn) w.largest-is ∙ next_larger _ _ _ within l.invariant.1 w.if-largest-o.true
+        | else-largest-o w ↦ ap (leb turn) w.largest-is ∙ next_smaller _ _ _ within l.invariant.1 w.if-largest-o.false
+      ],
     )
 
 returns-2 : tie.Need-returns invariant-loop-i decreases-loop-i

@@ -29,13 +29,13 @@ unfolding right is_setting some settings every
 table_right n1 n2 h k =
     same_truth _ _ (every_at 17 (right n2) (every_at 5 (λ n2. every 17 (right n2)) tt n2 k) n1 h)
 
-returns : tie.Need-returns
+returns : tie.Need-returns-then-n1-gt16
 returns c = is_false _ (λ e. omega (arith, (known _ _ e).n1_few))
 
-returns-2 : tie.Need-returns-2
+returns-2 : tie.Need-returns-then-n2-gt4
 returns-2 c = is_false _ (λ e. omega (arith, (known _ _ e).n2_few))
 
-returns-3 : tie.Need-returns-3
+returns-3 : tie.Need-returns
 returns-3 c =
     let a = c.before.before.args in
     table_right a.n1 a.n2 (omega arith) (omega arith)

@@ -10,7 +10,7 @@ use Rattle.settings.proofs.mask_bytes.Tie as tie
 returns : tie.Need-returns
 returns c =
     let a = c.before.args in
-    ap (λ (s : Sizes). s.bytes) c.sizes-of.ensures
+    ap (λ (s : Sizes). s.bytes) c.sizes_of-s.ensures
     ∙ cond_each (λ (s : Sizes). s.bytes) (is_setting a.n1 a.n2) refl refl
 
 pub mask_bytes_spec : {M : Type 1} → statement M

@@ -16,32 +16,32 @@ two_ports_lem : (n1 n2 : ℕ) → is_setting n1 n2 ≡ true → n1 ≡ 1
 unfolding mask_bytes
 two_ports_lem n1 n2 e one = rw (e, one, one_by_one n1 n2 e one)
 
-set : (c : tie.Else1) → is_setting c.before.before.args.n1 c.before.before.args.n2 ≡ true
-set c = sym c.before.is-setting.ensures ∙ not-false _ c.if1.false
+set : (c : tie.Else-not-is_setting) → is_setting c.before.before.args.n1 c.before.before.args.n2 ≡ true
+set c = sym c.before.is_setting.ensures ∙ not-false _ c.if-not-is_setting.false
 
 -- above two ports O1 is 4
-four : (c : tie.Else2) → let n1 = c.before.before.before.args.n1 in across n1 ≡ n1 * 4
-four c = rw (ne_eqb _ 1 c.if2.false)
+four : (c : tie.Else-n1-eq1) → let n1 = c.before.before.before.args.n1 in across n1 ≡ n1 * 4
+four c = rw (ne_eqb _ 1 c.if-n1-eq1.false)
 
-returns : tie.Need-returns
-returns c = rw (sym c.before.is-setting.ensures ∙ not-true _ c.if1.true)
+returns : tie.Need-returns-then-not-is_setting
+returns c = rw (sym c.before.is_setting.ensures ∙ not-true _ c.if-not-is_setting.true)
 
-returns-2 : tie.Need-returns-2
-returns-2 c = two_ports_lem _ _ (set c.before) c.if2.true
+returns-2 : tie.Need-returns-then-n1-eq1
+returns-2 c = two_ports_lem _ _ (set c.before) c.if-n1-eq1.true
 
-beams_down_requires : tie.Need-beams-down-requires
+beams_down_requires : tie.Need-beams_down-down-requires
 beams_down_requires c κs = (known _ _ (set c.before)).n2_few
 
-mul_bytes : tie.Need-overflow-mul-bytes
+mul_bytes : tie.Need-overflow_mul-bytes
 mul_bytes c =
     let e = c.before in
-    rw (c.beams-down.ensures, ← four e) (omega (arith, (known _ _ (set e.before)).bits))
+    rw (c.beams_down-down.ensures, ← four e) (omega (arith, (known _ _ (set e.before)).bits))
 
-returns-3 : tie.Need-returns-3
+returns-3 : tie.Need-returns
 unfolding mask_bytes
 returns-3 c =
     let e = c.before in
-    rw (c.beams-down.ensures, set e.before, ne_eqb _ 1 e.if2.false)
+    rw (c.beams_down-down.ensures, set e.before, ne_eqb _ 1 e.if-n1-eq1.false)
 
 pub sizes_of_spec : {M : Type 1} → statement M
 sizes_of_spec =

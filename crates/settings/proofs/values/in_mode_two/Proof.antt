@@ -4,11 +4,11 @@ use borrow.Author.Tests.{eq-eqb, ne_eqb}
 use Rattle.settings.proofs.values.in_mode_two.Statement.{statement}
 use Rattle.settings.proofs.values.in_mode_two.Tie as tie
 
-returns : tie.Need-returns
-returns c = rw (eq-eqb _ 1 c.if1.true)
+returns : tie.Need-returns-then-v-eq1
+returns c = rw (eq-eqb _ 1 c.if-v-eq1.true)
 
-returns-2 : tie.Need-returns-2
-returns-2 c = rw (c.second-beams.ensures, ne_eqb _ 1 c.before.if1.false)
+returns-2 : tie.Need-returns
+returns-2 c = rw (c.second_beams.ensures, ne_eqb _ 1 c.before.if-v-eq1.false)
 
 pub in_mode_two_spec : {M : Type 1} → statement M
 in_mode_two_spec = tie.close (tie.spec (λ c. search rules) returns (λ c κs. search rules) returns-2)

@@ -5,23 +5,23 @@ use borrow.Author.Tests.{eq-eqb, ne_eqb, lt-ltb, le-ltb}
 use Rattle.settings.proofs.values.seven_or_eight.Statement.{statement}
 use Rattle.settings.proofs.values.seven_or_eight.Tie as tie
 
-returns : tie.Need-returns
+returns : tie.Need-returns-then-n1-gt2
 returns c =
     let d = c.before.before in
-    rw (eq-eqb _ 2 d.if1.true, lt-ltb 2 d.before.args.n1 (omega arith))
+    rw (eq-eqb _ 2 d.if-n2-eq2.true, lt-ltb 2 d.before.args.n1 (omega arith))
 
-returns-2 : tie.Need-returns-2
+returns-2 : tie.Need-returns-then-n2-eq2
 returns-2 c =
     let d = c.before.before in
-    rw (c.plain.ensures, eq-eqb _ 2 d.if1.true, le-ltb 2 d.before.args.n1 (omega arith))
+    rw (c.plain.ensures, eq-eqb _ 2 d.if-n2-eq2.true, le-ltb 2 d.before.args.n1 (omega arith))
 
-returns-3 : tie.Need-returns-3
-returns-3 c = let t = c.before in rw (ne_eqb _ 2 t.before.before.if1.false, eq-eqb _ 8 t.if3.true)
+returns-3 : tie.Need-returns-then-s-eq8
+returns-3 c = let t = c.before in rw (ne_eqb _ 2 t.before.before.if-n2-eq2.false, eq-eqb _ 8 t.if-s-eq8.true)
 
-returns-4 : tie.Need-returns-4
+returns-4 : tie.Need-returns
 returns-4 c =
     let l = c.before in
-    rw (c.plain2.ensures, ne_eqb _ 2 l.before.before.if1.false, ne_eqb _ 8 l.if3.false)
+    rw (c.plain-2.ensures, ne_eqb _ 2 l.before.before.if-n2-eq2.false, ne_eqb _ 8 l.if-s-eq8.false)
 
 pub seven_or_eight_spec : {M : Type 1} → statement M
 seven_or_eight_spec =
