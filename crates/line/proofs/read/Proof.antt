@@ -37,7 +37,7 @@ returns-2 : tie.Need-returns-2 invariant-loop decreases-loop
 unfolding good
 returns-2 c =
     let l = c.before.before.before.before.loop in
-    let not-ended = sym c.before.ends.ensures ∙ not-true _ c.if2.true in
+    let not-ended = sym c.before.ends.ensures ∙ c.if2.true in
     let so-many : 8 - l.j ≡ suc (7 - l.j) = omega arith in
     reads_nothing _ (l.invariant.3 ∙ rw (so-many, not-ended))
 
@@ -49,7 +49,7 @@ loop-again c =
     let l = t.loop in
     let line : List ℕ = t.before.before.before.args.line.now in
     let n = e.before.before.leading in
-    let ended = sym e.before.ends.ensures ∙ not-false _ e.if2.false in
+    let ended = sym e.before.ends.ensures ∙ e.if2.false in
     let so-many : 8 - l.j ≡ suc (7 - l.j) = omega arith in
     let fewer : 8 - (l.j + 1) ≡ 7 - l.j = omega arith in
     let later = rest_at l.at line n.ensures.0.end in

@@ -12,23 +12,23 @@ use Rattle.rows.proofs.k_two.Statement.{statement}
 use Rattle.rows.proofs.k_two.Tie as tie
 
 -- N1 > N2 > 1
-returns : tie.Need-returns
+returns : tie.Need-returns-then-n2-n1
 unfolding k_two
 returns c =
     let column = c.before in
-    rw (lt-ltb 1 _ column.before.if1.true, lt-ltb _ _ column.if2.true) c.row.ensures
+    rw (lt-ltb 1 _ column.before.if-n2-gt1.true, lt-ltb _ _ column.if-n2-n1.true) c.row.ensures
 
 -- N1 = N2
-returns-2 : tie.Need-returns-2
+returns-2 : tie.Need-returns-then-n1-n2
 unfolding k_two
 returns-2 c =
     let column = c.before in
     let other = column.before in
-    rw (lt-ltb 1 _ other.before.if1.true, le-ltb _ _ other.if2.false, eq-eqb _ _ column.if3.true)
-    c.row2.ensures
+    rw (lt-ltb 1 _ other.before.if-n2-gt1.true, le-ltb _ _ other.if-n2-n1.false, eq-eqb _ _ column.if-n1-n2.true)
+    c.row-then-n1-n2.ensures
 
 -- the two columns with N2 = 1
-narrow : (c : tie.Joined1)
+narrow : (c : tie.Joined-n2-gt1)
     → let a = c.before.args in
     k_two a.n1 a.n2
     ≡ cond (eqb a.n1 2) (beam 0 0 ∷ beam 1 0 ∷ []) (beam 0 0 ∷ beam 1 0 ∷ beam 2 0 ∷ beam 3 0 ∷ [])
@@ -37,21 +37,21 @@ narrow c =
     ⊎_elim
     (λ w. rw (lt-ltb 1 _ w.0.taken, le-ltb _ _ w.1.left, ne_eqb _ _ w.2.left))
     (λ w. rw (le-ltb 1 _ w.left))
-    c.if1.branch
+    c.if-n2-gt1.branch
 
 -- N1 = 2
-returns-3 : tie.Need-returns-3
+returns-3 : tie.Need-returns-then-n1-eq2
 returns-3 c =
     let column = c.before in
     let i = column.before.before.args.i13 in
-    rw (narrow column.before, eq-eqb _ 2 column.if4.true)
-    (c.row3.ensures ∙ two_blanks (beam 0 0 ∷ beam 1 0 ∷ []) i)
+    rw (narrow column.before, eq-eqb _ 2 column.if-n1-eq2.true)
+    (c.row-then-n1-eq2.ensures ∙ two_blanks (beam 0 0 ∷ beam 1 0 ∷ []) i)
 
 -- N1 > 2
-returns-4 : tie.Need-returns-4
+returns-4 : tie.Need-returns
 returns-4 c =
     let column = c.before in
-    rw (narrow column.before, ne_eqb _ 2 column.if4.false) c.row4.ensures
+    rw (narrow column.before, ne_eqb _ 2 column.if-n1-eq2.false) c.row-2.ensures
 
 pub k_two_spec : {M : Type 1} → statement M
 k_two_spec =

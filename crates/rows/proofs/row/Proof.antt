@@ -17,7 +17,7 @@ below (suc (suc zero)) a b c d p q r s = absurd (r refl)
 below (suc (suc (suc zero))) a b c d p q r s = absurd (s refl)
 below (suc (suc (suc (suc i)))) a b c d p q r s = refl
 
-returns-5 : tie.Need-returns-5
+returns-5 : tie.Need-returns-in_default
 returns-5 c =
     let not = c.match.rest in
     below _ _ _ _ _ not.0.0.0.1 not.0.0.1 not.0.1 not.1

@@ -26,10 +26,10 @@ right : (c : tie.Else-not-is_ranked) {x : Ranges}
     let a = z.before.args in
     x ≡ given z.sizes_of-s.result (by_rank z.sizes_of-s.result a.n1 a.n2 a.mode a.v)
     → x ≡ ranges_of a.n1 a.n2 a.mode a.v
-right c e = e ∙ by_rank_lem _ _ _ _ (tested c.before ∙ not-false _ c.if-not-is_ranked.false) c.before.before.sizes_of-s.ensures
+right c e = e ∙ by_rank_lem _ _ _ _ (tested c.before ∙ c.if-not-is_ranked.false) c.before.before.sizes_of-s.ensures
 
 returns : tie.Need-returns-then-not-is_ranked
-returns c = rw (c.before.before.sizes_of-s.ensures, tested c.before ∙ not-true _ c.if-not-is_ranked.true)
+returns c = rw (c.before.before.sizes_of-s.ensures, tested c.before ∙ c.if-not-is_ranked.true)
 
 returns-2 : tie.Need-returns-then-v-le2
 unfolding by_rank

@@ -17,14 +17,14 @@ unfolding mask_bytes
 two_ports_lem n1 n2 e one = rw (e, one, one_by_one n1 n2 e one)
 
 set : (c : tie.Else-not-is_setting) → is_setting c.before.before.args.n1 c.before.before.args.n2 ≡ true
-set c = sym c.before.is_setting.ensures ∙ not-false _ c.if-not-is_setting.false
+set c = sym c.before.is_setting.ensures ∙ c.if-not-is_setting.false
 
 -- above two ports O1 is 4
 four : (c : tie.Else-n1-eq1) → let n1 = c.before.before.before.args.n1 in across n1 ≡ n1 * 4
 four c = rw (ne_eqb _ 1 c.if-n1-eq1.false)
 
 returns : tie.Need-returns-then-not-is_setting
-returns c = rw (sym c.before.is_setting.ensures ∙ not-true _ c.if-not-is_setting.true)
+returns c = rw (sym c.before.is_setting.ensures ∙ c.if-not-is_setting.true)
 
 returns-2 : tie.Need-returns-then-n1-eq1
 returns-2 c = two_ports_lem _ _ (set c.before) c.if-n1-eq1.true

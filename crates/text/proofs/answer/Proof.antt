@@ -11,12 +11,12 @@ use Rattle.text.proofs.answer.Tie as tie
 
 returns : tie.Need-returns
 returns c =
-    let no = sym c.before.is-printable.ensures ∙ not-true _ c.if1.true in
+    let no = sym c.before.is-printable.ensures ∙ c.if1.true in
     rw no (writes_nothing _ _)
 
 may : (c : tie.Else1) → let a = c.before.before.before.before.args in
     printable a.a a.phases.now ≡ true
-may c = sym c.before.is-printable.ensures ∙ not-false _ c.if1.false
+may c = sym c.before.is-printable.ensures ∙ c.if1.false
 
 compose_requires : tie.Need-compose-requires
 compose_requires c κs = (may c.before, lit≤ tt)

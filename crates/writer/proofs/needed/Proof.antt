@@ -11,7 +11,7 @@ use Rattle.writer.proofs.needed.Tie as tie
 
 -- the first tests hold
 passed : (c : tie.Else1) → let a = c.before.args in five a.v a.pairs a.rows a.columns ≡ true
-passed c = not-false _ c.if1.false
+passed c = c.if1.false
 
 sizes : (c : tie.Else1) → let a = c.before.args in Products a.v a.pairs (a.rows * a.columns)
 sizes c =
@@ -21,7 +21,7 @@ sizes c =
 returns : tie.Need-returns
 returns c =
     let a = c.before.args in
-    let large : five a.v a.pairs a.rows a.columns ≡ false = not-true _ c.if1.true in
+    let large : five a.v a.pairs a.rows a.columns ≡ false = c.if1.true in
     rw large
 
 returns-2 : tie.Need-returns-2

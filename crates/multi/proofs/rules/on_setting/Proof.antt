@@ -25,10 +25,10 @@ module _ (c : tie.Else2) where
   r = c.before.before.before.before.args.r
 
   set : is_panel_setting r.ng r.n1 r.n2 ≡ true
-  set = setting c.before.before.before ∙ not-false _ c.before.before.if1.false
+  set = setting c.before.before.before ∙ c.before.before.if1.false
 
   mode : mode_fits r.ng r.mode ≡ true
-  mode = sym c.before.is-mode.ensures ∙ not-false _ c.if2.false
+  mode = sym c.before.is-mode.ensures ∙ c.if2.false
 
 returns : tie.Need-returns
 unfolding first rule

@@ -31,7 +31,7 @@ whole c = sym (start₁ c).requires.2 ∙ c.if1.false
 acts : (c : tie.After-g-of) → in_mode_two (start_g c).args.r ≡ true
 acts c =
     let e = c.before in
-    sym e.before.is-mode-two.ensures ∙ not-false _ e.if2.false
+    sym e.before.is-mode-two.ensures ∙ e.if2.false
 
 -- and what it reckons with is small
 small : (c : tie.After-g-of)
@@ -50,7 +50,7 @@ returns-2 : tie.Need-returns-2
 returns-2 c =
     let e = c.before.before in
     let s = start₁ e in
-    plain_base s.args.r s.pre.0 (whole e) (sym c.before.is-mode-two.ensures ∙ not-true _ c.if2.true)
+    plain_base s.args.r s.pre.0 (whole e) (sym c.before.is-mode-two.ensures ∙ c.if2.true)
 
 div_q : tie.Need-nonzero-div-q
 div_q c =
