@@ -1,7 +1,7 @@
 -- Each public function of the crate has one outcome on every input: any two that its contract admits are equal, the answer
 -- and, where there is one, the reader that is left.
 use mathlib.Core.Path.{◌≡◌, sym, ap, ◌∙◌}
-use mathlib.Core.Bool.{true, false, true≢false}
+use mathlib.Core.Bool.{true≢false}
 use mathlib.Core.List.{List}
 use Prim.Native.Nat.{ℕ, ◌<◌}
 use native.Mathlib.Omega.{arith}
