@@ -1,3 +1,4 @@
--- A law of eight numbers, and the theorem on what is public.
+-- A law of eight numbers, and of numbers as reports; and the theorems on what is public.
 pub mod Numbers
+pub mod Eights
 pub mod Unique

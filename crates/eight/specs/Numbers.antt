@@ -1,5 +1,5 @@
 -- A report as eight numbers, in the order in which lines and logs have them: N1 N2 mode v i11 i12 i13 i2.
-use Rattle.std.specs.Prelude.{List, [], ◌∷◌, ℕ, get_or}
+use Rattle.std.specs.Prelude.{List, [], ◌∷◌, ℕ, zero, suc, ◌/◌, length, get_or, drop}
 use Rattle.report.specs.declared.Report.{Report}
 
 abbrev pub values_of : Report → List ℕ
@@ -18,3 +18,11 @@ report_of xs =
       i13 = get_or xs 6 0;
       i2 = get_or xs 7 0;
     }
+
+-- the reports of numbers that stand eight to a report; fewer than eight at the end are none
+unfoldable pub eights_of : ℕ → List ℕ → List Report
+eights_of zero xs = []
+eights_of (suc k) xs = report_of xs ∷ eights_of k (drop 8 xs)
+
+abbrev pub eights : List ℕ → List Report
+eights xs = eights_of (length xs / 8) xs

@@ -2,7 +2,7 @@
 #![tactic(auto)]
 
 ghost use Rattle.std.specs.Prelude.{◌≡◌};
-ghost use Rattle.eight.specs.Numbers.{report_of};
+ghost use Rattle.eight.specs.Numbers.{values_of, report_of};
 
 use report::Report;
 
@@ -20,4 +20,11 @@ pub fn report_of(numbers: [u32; 8]) -> Report
         i13: numbers[6],
         i2: numbers[7],
     }
+}
+
+// The eight numbers of a report.
+pub fn values_of(r: Report) -> [u32; 8]
+    ensures { result ≡ values_of r }
+{
+    [r.n1, r.n2, r.mode, r.v, r.i11, r.i12, r.i13, r.i2]
 }

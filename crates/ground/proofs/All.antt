@@ -31,3 +31,9 @@ pub all_at : {P : ℕ → Type 0} {xs : List ℕ} → All P xs → (d i : ℕ) �
 all_at all_nil d i h = absurd (omega (arith, h))
 all_at (all_cons p a) d zero h = p
 all_at (all_cons p a) d (suc i) h = all_at a d i (omega arith)
+
+-- also past the end, if it holds of what stands there
+pub all_or : {P : ℕ → Type 0} {xs : List ℕ} → All P xs → {d : ℕ} → P d → (i : ℕ) → P (get_or xs i d)
+all_or all_nil h i = h
+all_or (all_cons p a) h zero = p
+all_or (all_cons p a) h (suc i) = all_or a h i

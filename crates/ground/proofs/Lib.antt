@@ -8,5 +8,8 @@ pub mod All
 pub mod First
 pub mod Written
 pub mod Copied
+pub mod Moved
+pub mod Adds
+pub mod Writes
 pub mod Unique
 pub mod Examples

@@ -8,7 +8,7 @@ use native.Mathlib.Nat.{zero-mul, not-suc-le-zero, le_of_suc-le-suc}
 use native.Mathlib.Omega.{arith}
 use lib.Dec.{T, T_not, eqb, eqb_refl}
 use lib.ListN.{length, get_or, take, drop, set, replicate, length-append}
-use lib.Seq.{get_or-take, get_or-drop, take_at, drop-append-add}
+use lib.Seq.{get_or-take, get_or-drop, take_at, drop_at, drop-drop, drop-append-add}
 use Rattle.ground.specs.Lists.{join, places, some, each, among, Member, member_first, member_further}
 use Rattle.ground.specs.Lists.{NoRepeats, once_nil, once_cons}
 use Rattle.ground.proofs.Tests.{and_left, and_right, or_cases, or_left, or_right}
@@ -18,6 +18,15 @@ pub at_within : {A : Type 0} (xs : List A) (i : ℕ) (x y : A) → i < length xs
 at_within [] i x y h = absurd (not-suc-le-zero h)
 at_within (a ∷ xs) zero x y h = refl
 at_within (a ∷ xs) (suc i) x y h = at_within xs i x y (le_of_suc-le-suc h)
+
+-- what stands behind the front of a part of a list
+pub drop_behind : {A : Type 0} (xs front rest : List A) (at m : ℕ) → drop at xs ≡ front ++ rest → m ≡ at + length front
+    → drop m xs ≡ rest
+drop_behind xs front rest at m e p =
+    ap (λ (k : ℕ). drop k xs) p
+    ∙ sym (drop-drop (length front) at xs)
+    ∙ ap (drop (length front)) e
+    ∙ drop_at front rest (length front) refl
 
 -- ---- lists that are mapped
 
@@ -159,6 +168,13 @@ module _ {A B : Type 0} (f : A → List B) where
   join_next [] j x h = absurd (not-suc-le-zero h)
   join_next (y ∷ xs) zero x h = append-nil (f y)
   join_next (y ∷ xs) (suc j) x h = rw (join_next xs j x (le_of_suc-le-suc h), append_assoc)
+
+  -- the first of them are no longer than all
+  pub join_few : (xs : List A) (j : ℕ) → length (join (map f (take j xs))) ≤ length (join (map f xs))
+  unfolding join
+  join_few xs zero = omega arith
+  join_few [] (suc j) = omega arith
+  join_few (x ∷ xs) (suc j) = simp length-append (omega (arith, join_few xs j))
 
   pub length_join : (xs : List A) (x : A) (w : ℕ) → ((j : ℕ) → j < length xs → length (f (get_or xs j x)) ≡ w)
       → length (join (map f xs)) ≡ length xs * w

@@ -4,3 +4,4 @@ pub mod Lists
 pub mod First
 pub mod Unique
 pub mod Copied
+pub mod Lent

@@ -1,4 +1,4 @@
--- A number's code reads back as the number, and a number that is read stood there in its code.
+-- A number's code reads back as the number, and a number that is read stood there in its code, than which none is shorter.
 use mathlib.Core.Path.{◌≡◌, refl, sym, ap, ◌∙◌}
 use mathlib.Core.Bool.{true, false, true≢false}
 use mathlib.Core.Logic.{◌⊎◌, inl, inr}
@@ -7,12 +7,14 @@ use Prim.Native.Nat.{ℕ, zero, suc, ◌+◌, ◌*◌, ◌/◌, ◌%◌, ◌^◌
 use native.Mathlib.Nat.{pow-suc, pow-le-pow_right, add-mul, mul_assoc, mul_comm, div-add-mod'}
 use native.Mathlib.Omega.{arith}
 use lib.Dec.{ltb, eqb}
-use lib.ListN.{length}
+use lib.ListN.{length, drop}
 use borrow.Author.Tests.{lt-ltb, le-ltb, ltb-true, ltb-false, ne_eqb}
 use Rattle.ground.specs.Lists.{all_cons}
+use Rattle.ground.proofs.All.{all_drop}
 use Rattle.ground.proofs.Booleans.{either, and_nothing}
-use Rattle.groups.specs.Number.{value, code_in, is_padded, is_large, scan}
-use Rattle.groups.specs.Relied.{Below}
+use Rattle.ground.proofs.Lists.{drop_behind}
+use Rattle.groups.specs.Number.{value, code_in, code, is_padded, is_large, scan, number_at}
+use Rattle.groups.specs.Relied.{Below, NumberStands, worth}
 use Rattle.groups.proofs.Bytes.{fifth_small, pow_next}
 
 -- a byte that is not zero pads nothing; nor does the first
@@ -211,7 +213,65 @@ scan_stood (b ∷ bs) (suc k) i s at e h (all_cons low below) f =
     (scan_stood bs k (i + 1) (s + b % 128 * 128 ^ i) (at + 1) (omega arith) (some_left k i b e l large) below
     (sym (byte_more i s at b bs p l large) ∙ f)))))
 
--- a code has a byte, and at most five
+-- at a place of a list of bytes
+pub number_stands : {bytes : List ℕ} → Below 256 bytes → (at : ℕ) {n next : ℕ} → number_at bytes at ≡ value n next
+    → NumberStands bytes at n next
+number_stands {bytes} below at {n} {next} found =
+    let t = scan_stood (drop at bytes) 5 0 0 at refl (omega arith) (all_drop at below) found in
+    let same : t.number ≡ n = omega (arith, t.sum) in
+    let stood : drop at bytes ≡ code n ++ t.rest = rw same at t.stands in
+    let place : next ≡ at + length (code n) = rw same at t.place in
+    record {
+      fits = omega (arith, t.small);
+      stands = stood ∙ ap (λ (xs : List ℕ). code n ++ xs) (sym (drop_behind bytes (code n) t.rest at next stood place));
+      place = place;
+    }
+
+-- ---- how long a code is
+
+-- it has a byte, and at most five
 pub code_some : (n : ℕ) → 0 < length (code_in 5 n)
 unfolding code_in
 code_some n = either (ltb n 128) (λ t. rw t (omega arith)) (λ t. rw t (omega arith))
+
+code_in_few : (k n : ℕ) → length (code_in k n) ≤ k
+unfolding code_in
+code_in_few zero n = omega arith
+code_in_few (suc k) n = either (ltb n 128) (λ t. rw t (omega arith)) (λ t. rw t (omega (arith, code_in_few k (n / 128))))
+
+pub code_few : (n : ℕ) → length (code n) ≤ 5
+code_few n = code_in_few 5 n
+
+-- it stands for the number
+code_in_worth : (k n : ℕ) → 8 * n < 128 ^ k → worth (code_in k n) ≡ n
+unfolding code_in worth
+code_in_worth zero n h = omega (arith, h)
+code_in_worth (suc k) n h =
+    either (ltb n 128) (λ t. rw t (omega (arith, ltb-true n 128 t)))
+    (λ t. rw t (omega (arith, code_in_worth k (n / 128) (omega (arith, h, pow-suc 128 k)))))
+
+pub code_worth : (n : ℕ) → n < 2 ^ 32 → worth (code n) ≡ n
+code_worth n h = code_in_worth 5 n (omega arith)
+
+-- no fewer bytes stand for it
+fewest_in : (k : ℕ) (bs : List ℕ) → 0 < length bs → length (code_in k (worth bs)) ≤ length bs
+unfolding code_in worth
+fewest_in zero bs some = omega arith
+fewest_in (suc k) [] some = absurd (omega arith)
+fewest_in (suc k) (b ∷ bs) some =
+    let rest : (b % 128 + 128 * worth bs) / 128 ≡ worth bs = omega arith in
+    either (ltb (b % 128 + 128 * worth bs) 128) (λ t. rw t (omega arith))
+    (λ t. rw (t, rest) (omega (arith, fewest_in k bs (some_worth bs (omega (arith, ltb-false (b % 128 + 128 * worth bs) 128 t))))))
+  where
+    some_worth : (bs : List ℕ) → 0 < worth bs → 0 < length bs
+    some_worth [] h = absurd (omega arith)
+    some_worth (b ∷ bs) h = omega arith
+
+pub fewest : (bs : List ℕ) → 0 < length bs → length (code (worth bs)) ≤ length bs
+fewest bs some = fewest_in 5 bs some
+
+-- What is read as a number, wherever it stands, has as many bytes as its code: there is no shorter one that the reader
+-- takes, and no other.
+pub no_shorter : {bytes : List ℕ} → Below 256 bytes → (at : ℕ) {n next : ℕ} → number_at bytes at ≡ value n next
+    → next ≡ at + length (code n)
+no_shorter below at found = (number_stands below at found).place
