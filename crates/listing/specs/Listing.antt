@@ -1,10 +1,15 @@
 -- The lines of a listing of a log: a line of numbers (`lineOf`) for each report, and what stands last.
-use Rattle.std.specs.Prelude.{List, [], ◌∷◌, ℕ, ◌*◌}
+use Rattle.std.specs.Prelude.{◌≡◌, Bool, true, List, [], ◌∷◌, ℕ, ◌*◌}
 use Rattle.text.specs.Words.{joined, decimal, headed}
 
 -- `end`
 unfoldable pub end_text : List ℕ
 end_text = headed (101 ∷ 110 ∷ 100 ∷ []) []
+
+-- whether a line is `end` and its newline, and nothing else
+pub record TellsEnd (line : List ℕ) (t : Bool) : Type 0 where
+  pub only : t ≡ true → line ≡ end_text
+  pub always : line ≡ end_text → t ≡ true
 
 -- `fault`, its number, `at` and its place
 unfoldable pub fault_text : ℕ → ℕ → List ℕ

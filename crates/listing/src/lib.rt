@@ -4,7 +4,7 @@
 ghost use Rattle.std.specs.Prelude.{true};
 ghost use Rattle.text.specs.Words.{line_of};
 ghost use Rattle.text.specs.Text.{Writes};
-ghost use Rattle.listing.specs.Listing.{end_text, fault_text};
+ghost use Rattle.listing.specs.Listing.{end_text, TellsEnd, fault_text};
 
 // The bytes of the longest line: eight numbers, each of ten digits and what follows it. A buffer of so many has room for
 // every line.
@@ -32,6 +32,13 @@ pub fn end(out: &mut [u8]) -> usize
     ensures { Writes true end_text out.old result out.new }
 {
     text::put(b"end\n", 4, out)
+}
+
+// Whether a line is the one after the last report: `end` and a newline, and nothing else.
+pub fn is_end(line: &[u8]) -> bool
+    ensures { TellsEnd line.now result }
+{
+    line == b"end\n".as_slice()
 }
 
 // Writes the line of a fault, its number and its place: number 2 at place 17 gives `fault 2 at 17` and a newline. Gives the

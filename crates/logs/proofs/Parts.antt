@@ -104,7 +104,7 @@ module _ (log : List ℕ) (d : ℕ) where
       ap (after (takes log (d + from) left) (d + from) got) (number_later at found) ∙ rest)
       (λ left got at k p found. ap (after (takes log (d + from) left) (d + from) got) (number_later at found))
 
-  step_later : (at : ℕ) → step_at log (d + at) ≡ moved_by d (step_at (drop d log) at)
+  pub step_later : (at : ℕ) → step_at log (d + at) ≡ moved_by d (step_at (drop d log) at)
   step_later at =
       either (ltb at (length (drop d log)))
       (λ t.

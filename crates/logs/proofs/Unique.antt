@@ -1,5 +1,5 @@
 -- Each public function of the crate has one outcome on every input: any two that its contract admits are equal, the answer
--- and, where there is one, the reader that is left.
+-- and, where there is one, the reader that is left or every byte of the buffer.
 use mathlib.Core.Path.{◌≡◌, sym, ap, ◌∙◌}
 use mathlib.Core.Bool.{true≢false}
 use mathlib.Core.List.{List}
@@ -10,6 +10,7 @@ use denote.Ref.{Bor}
 use borrow.Author.Tests.{ltb-true, ltb-false}
 use Rattle.ground.specs.Unique.{Unique, UniqueLeft}
 use Rattle.ground.proofs.Booleans.{either}
+use Rattle.coding.proofs.Placed.{one_placing}
 use Rattle.logs.specs.declared.Answer.{Answer}
 use Rattle.logs.specs.declared.Contents.{Contents}
 use Rattle.logs.specs.declared.LogStep.{LogStep}
@@ -17,9 +18,12 @@ use Rattle.logs.specs.declared.Reader.{Reader}
 use Rattle.logs.specs.declared.Taken.{Taken}
 use Rattle.logs.specs.Answer.{step_of, Starts, Steps, Holds}
 use Rattle.logs.proofs.Answers.{one_answer, one_next, kind_report}
+use Rattle.logs.proofs.Several.{all_one}
 use Rattle.logs.proofs.taken_at.Reads as taken_at
 use Rattle.logs.proofs.reports_in.Reads as reports-in
 use Rattle.logs.proofs.step_at.Reads as step-at
+use Rattle.logs.proofs.write.Reads as write
+use Rattle.logs.proofs.write_all.Reads as write-all
 use Rattle.logs.proofs.Reader.new.Reads as reader-new
 use Rattle.logs.proofs.Reader.next.Reads as reader-next
 
@@ -54,6 +58,12 @@ one_holds {log} {c} {d} p q =
 
 pub reports_in_unique : Unique reports-in.Learnt
 reports_in_unique k a r r' e e' = one_holds
+
+pub write_unique : UniqueLeft write.Learnt (λ k e. e.1.0.now)
+write_unique k a r r' e e' = one_placing
+
+pub write_all_unique : UniqueLeft write-all.Learnt (λ k e. e.1.0.now)
+write_all_unique k a r r' e e' = all_one
 
 -- ---- a reader: what follows is said of the one record that is the whole contract of the function
 

@@ -1,9 +1,9 @@
--- What can be relied on of every log: what a step tells of its bytes, which reports are handed out, and what a reader's
--- calls
--- give.
+-- What can be relied on of every log: what a step tells of its bytes, which reports are handed out, what a reader's calls
+-- give, and how reports that were written read back.
 use Rattle.std.specs.Prelude.{◌≡◌, List, [], ◌∷◌, ◌++◌, ℕ, ◌+◌, ◌^◌, ◌<◌, ◌≤◌, eqb, length, drop}
 use Rattle.ground.specs.Cases.{◌⇒◌∣◌}
 use Rattle.ground.specs.Lists.{along, All}
+use Rattle.ground.specs.Lent.{laid}
 use Rattle.report.specs.declared.Report.{Report}
 use Rattle.eight.specs.Numbers.{values_of}
 use Rattle.groups.specs.Number.{code}
@@ -11,6 +11,7 @@ use Rattle.groups.specs.Relied.{Below, Shows}
 use Rattle.logs.specs.declared.Answer.{Answer}
 use Rattle.logs.specs.declared.LogStep.{LogStep}
 use Rattle.logs.specs.declared.Reader.{Reader}
+use Rattle.logs.specs.declared.ReportsWritten.{ReportsWritten}
 use Rattle.logs.specs.Log.{coded, report_step, end_step, fault_step, step_at}
 use Rattle.logs.specs.Answer.{Steps}
 
@@ -70,3 +71,23 @@ pub data Runs : Reader → List Answer → Reader → Type 0 where
   no_call : {r : Reader} → Runs r [] r
   call_and : {was is then : Reader} {a : Answer} {more : List Answer} → Steps was a is → Runs is more then
       → Runs was (a ∷ more) then
+
+-- ---- reports that were written
+
+-- from a place on these reports are handed out, and the reader then stands at another
+pub data Hands (log : List ℕ) : ℕ → List Report → ℕ → Type 0 where
+  none_yet : {at : ℕ} → Hands log at [] at
+  one_then : {at next last : ℕ} {r : Report} {rs : List Report} → step_at log at ≡ report_step r next → Hands log next rs last
+      → Hands log at (r ∷ rs) last
+
+-- they are handed out from their start on, and behind them stands what stood there before
+pub record ReadsBack (lent left : List ℕ) (from : ℕ) (rs : List Report) (next : ℕ) : Type 0 where
+  pub reports : Hands left from rs next
+  pub behind : (at : ℕ) → next ≤ at → step_at left at ≡ step_at lent at
+
+-- a log stands in a buffer from a place on, all of its reports were written, and all else is as lent
+pub record SameAgain (log : List ℕ) (rs : List Report) (from : ℕ) (lent : List ℕ) (given : ReportsWritten) (left : List ℕ) : Type 0 where
+  pub refusal : given.refusal ≡ 0
+  pub reports : given.reports ≡ length rs
+  pub next : given.next ≡ from + length log
+  pub leaves : left ≡ laid log from lent

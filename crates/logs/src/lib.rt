@@ -1,10 +1,14 @@
 // A log of reports: a plain run of numbers, eight to a report, each in groups of seven bits.
 #![tactic(auto)]
 
-ghost use Rattle.std.specs.Prelude.{◌≡◌};
+ghost use Rattle.std.specs.Prelude.{◌≡◌, ◌+◌, ◌≤◌, length, drop};
+ghost use Rattle.eight.specs.Numbers.{report_of};
+ghost use Rattle.coding.specs.Coding.{WritesReport};
 ghost use Rattle.logs.specs.Log.{step_at};
 ghost use Rattle.logs.specs.Answer.{is_report, step_of, Starts, Steps, Holds};
+ghost use Rattle.logs.specs.Writing.{WritesReports};
 
+use coding::LogWritten;
 use groups::{Fault, Parsed};
 use report::Report;
 
@@ -49,6 +53,17 @@ pub struct LogStep {
     pub place: u64,
     pub next: u64,
     pub report: Report,
+}
+
+// What is given where several reports are to be written: how many were, and the place behind the last of them. refusal is 0
+// where these are all, 1 where there is no room for the whole of the next, and 2 where none is left, but some numbers are,
+// fewer than the eight of a report.
+#[repr(C)]
+#[derive(Clone, Copy)]
+pub struct ReportsWritten {
+    pub refusal: u32,
+    pub reports: u64,
+    pub next: u64,
 }
 
 // Reads what stands at a place of a log: a report, the end, which is given at the log's length and at any place past it, or
@@ -161,5 +176,58 @@ pub fn step_at(log: &[u8], from: usize) -> LogStep
             next,
             report: none,
         },
+    }
+}
+
+// Writes a report into a lent buffer from a place on, where there is room for the whole of it, and gives the place behind
+// it; all other bytes stay. Otherwise, a start past the end among it, the refusal is 1 and every byte stays. Any eight
+// numbers are written, and `taken_at` reads them back.
+pub fn write(r: Report, out: &mut [u8], from: usize) -> LogWritten
+    ensures { WritesReport r from out.old result out.new }
+{
+    coding::write(r, out, from)
+}
+
+// The report of the eight numbers from a place on.
+fn report_at(numbers: &[u32], i: usize) -> Report
+    requires { i + 8 ≤ length numbers.now }
+    ensures { result ≡ report_of (drop i numbers.now) }
+{
+    let mut values = [0; 8];
+    let mut j = 0;
+    while j < 8 {
+        values[j] = numbers[i + j];
+        j += 1;
+    }
+    eight::report_of(values)
+}
+
+// Writes reports, eight numbers each, one after the other into a lent buffer from a place on, up to the first that has no
+// room: nothing of that one is written, and those before it stand. Where fewer than eight numbers are left after the last
+// report the refusal is 2. Without numbers nothing is written and nothing refused, wherever the start is.
+pub fn write_all(numbers: &[u32], out: &mut [u8], from: usize) -> ReportsWritten
+    ensures { WritesReports numbers.now from out.old result out.new }
+{
+    let mut reports = 0;
+    let mut next = from;
+    let mut i = 0;
+    while 8 <= numbers.len() - i {
+        let w = coding::write(report_at(numbers, i), out, next);
+        if w.refusal != 0 {
+            return ReportsWritten {
+                refusal: 1,
+                reports,
+                next: next as u64,
+            };
+        }
+        next = w.next as usize;
+        reports += 1;
+        i += 8;
+    }
+    let refusal = if i < numbers.len() { 2 } else { 0 };
+    ReportsWritten {
+        refusal,
+        reports,
+        next: next as u64,
     }
 }
