@@ -1,6 +1,6 @@
 -- Where there is room for the whole report each turn has one number more written into what is not written yet, and otherwise
 -- nothing is.
-use Rattle.std.proofs.Common.{◌≡◌, refl, sym, ap, ◌∙◌, Bool, true, ℕ, ◌+◌, ◌-◌, ◌<◌, ◌≤◌, List, leb, length, get_or, take, arith}
+use Rattle.std.proofs.Common.{◌≡◌, refl, sym, ap, Bool, true, ℕ, ◌+◌, ◌<◌, ◌≤◌, List, leb, length, get_or, take, arith}
 use Rattle.std.proofs.Common.{length-take, length-drop}
 use lib.Seq.{take_all}
 use borrow.Author.Tests.{leb-true}

@@ -1,5 +1,5 @@
 -- Where the places are a part of the bytes each turn moves one byte more, and after the last all have been moved.
-use Rattle.std.proofs.Common.{◌<◌, ◌≤◌, length, arith}
+use Rattle.std.proofs.Common.{arith}
 use Rattle.ground.proofs.Moved.{past_the_end, moved_next, moved_all}
 use Rattle.ground.proofs.to_front.Goals as goal
 
