@@ -1,6 +1,6 @@
 -- A report more stands where it was written; otherwise the next has no room. After the last, numbers may be left, fewer than
 -- eight.
-use Rattle.std.proofs.Common.{◌≡◌, ℕ, ◌*◌, ◌/◌, ◌%◌, ◌<◌, ◌≤◌, List, length, drop, arith}
+use Rattle.std.proofs.Common.{◌≡◌, refl, ℕ, ◌*◌, ◌/◌, ◌%◌, ◌<◌, ◌≤◌, List, length, drop, arith}
 use borrow.Author.Tests.{eq-eqb, ne_eqb}
 use Rattle.report.specs.declared.Report.{Report}
 use Rattle.eight.specs.Numbers.{report_of}
@@ -42,7 +42,7 @@ returns-then-i-numbers c =
     let few = l.invariant.standing.few in
     let all : length c.args.numbers.now / 8 ≤ l.reports = omega (arith, few) in
     let some : length c.args.numbers.now % 8 ≡ 0 → ⊥ = λ none. omega (arith, few, all) in
-    all_standing _ _ _ l.invariant.standing all (rw (ne_eqb _ 0 some))
+    all_standing _ _ _ l.invariant.standing all (rw (ne_eqb _ 0 some) refl)
 
 pub returns-else-i-numbers : goal.returns-else-i-numbers
 returns-else-i-numbers c =
@@ -50,4 +50,4 @@ returns-else-i-numbers c =
     let few = l.invariant.standing.few in
     let all : length c.args.numbers.now / 8 ≤ l.reports = omega (arith, few) in
     let none : length c.args.numbers.now % 8 ≡ 0 = omega (arith, few, all) in
-    all_standing _ _ _ l.invariant.standing all (rw (eq-eqb _ 0 none))
+    all_standing _ _ _ l.invariant.standing all (rw (eq-eqb _ 0 none) refl)
