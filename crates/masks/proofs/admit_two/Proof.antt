@@ -12,30 +12,30 @@ use Rattle.masks.proofs.Given.{zero_bits, last_of, gives_early, first_passed}
 use Rattle.masks.proofs.admit_two.Statement.{statement}
 use Rattle.masks.proofs.admit_two.Tie as tie
 
-returns : tie.Need-returns
+returns : tie.Need-returns-then-k-ne0
 unfolding before_bits up_to_first
 returns c =
     let a = c.before.before.before.before.args in
-    gives_early (up_to_two a.x) a.mask.now a.ranks a.offsets.now a.room c.before.up-to-first.ensures
-    c.if1.true
+    gives_early (up_to_two a.x) a.mask.now a.ranks a.offsets.now a.room c.before.up_to_first-k.ensures
+    c.if-k-ne0.true
 
 -- past the first bit the others are left, the offsets and the room
-past_first : (c : tie.Else1) → let a = c.before.before.before.before.args in
+past_first : (c : tie.Else-k-ne0) → let a = c.before.before.before.before.args in
     admitted (up_to_two a.x) a.mask.now a.ranks a.offsets.now a.room
     ≡ (zero_bits (up_to_two a.x) a.mask.now 1 ⇒ 10 ∣ last_of a.x a.offsets.now a.room)
 unfolding before_bits up_to_first
 past_first c =
     let a = c.before.before.before.before.args in
-    first_passed (up_to_two a.x) a.mask.now a.ranks a.offsets.now a.room c.before.up-to-first.ensures
-    c.if1.false
+    first_passed (up_to_two a.x) a.mask.now a.ranks a.offsets.now a.room c.before.up_to_first-k.ensures
+    c.if-k-ne0.false
 
-returns-2 : tie.Need-returns-2
+returns-2 : tie.Need-returns-then-x-lt2
 returns-2 c =
-    let one = le_of_suc-le-suc c.before.if2.true in
+    let one = le_of_suc-le-suc c.before.if-x-lt2.true in
     c.last_of.ensures ∙ sym (past_first c.before.before.before ∙ rw (le-ltb 1 _ one, none_past _ _ _ _ 0 _ one))
 
 -- two beams: the second bit is the last
-past_second : (c : tie.After-is-zero)
+past_second : (c : tie.After-is_zero)
     → let e = c.before.before.before.before.before in
     let a = e.before.before.before.before.args in
     admitted (up_to_two a.x) a.mask.now a.ranks a.offsets.now a.room
@@ -46,18 +46,18 @@ past_second c =
     let x = a.x in
     past_first two.before.before
     ∙ rw (
-      lt-ltb 1 _ two.if2.false,
+      lt-ltb 1 _ two.if-x-lt2.false,
       from_second _ _ _ _ 2 (omega arith),
       none_past _ _ _ _ 1 2 (omega arith),
       sym (or_nothing (zero_at a.mask.now x.width x.l x.m 1)),
       sym c.is_zero.ensures,
     )
 
-returns-3 : tie.Need-returns-3
-returns-3 c = sym (past_second c.before ∙ rw c.if3.true)
+returns-3 : tie.Need-returns-then-is_zero
+returns-3 c = sym (past_second c.before ∙ rw c.if-is_zero.true)
 
-returns-4 : tie.Need-returns-4
-returns-4 c = c.last-of2.ensures ∙ sym (past_second c.before.before ∙ rw c.before.if3.false)
+returns-4 : tie.Need-returns
+returns-4 c = c.last_of-2.ensures ∙ sym (past_second c.before.before ∙ rw c.before.if-is_zero.false)
 
 pub admit_two_spec : {M : Type 1} → statement M
 admit_two_spec =

@@ -35,33 +35,33 @@ module _ (x : Needs) (bytes ranks : ℕ) where
     left long not_four = rw (ne_eqb _ 1 not_one, ne_eqb _ 2 not_two, eq-eqb _ _ long, ne_eqb _ 4 not_four)
 
 -- past the fourth test
-past_four : (c : tie.Else4) → let a = c.before.before.before.before.before.before.before.before.args in
+past_four : (c : tie.Else-x-eq4) → let a = c.before.before.before.before.before.before.before.before.args in
     before_bits a.x a.bytes a.ranks ≡ (rank_barred a.ranks a.x.v ⇒ 5 ∣ a.x.refusal)
 past_four c =
     let e3 = c.before.before in
     let e2 = e3.before.before in
-    left _ _ _ e2.before.before.if1.false e2.if2.false e3.if3.false c.if4.false
+    left _ _ _ e2.before.before.if-x-eq1.false e2.if-x-eq2.false e3.if-bytes-x.false c.if-x-eq4.false
 
-returns-3 : tie.Need-returns-3
+returns-3 : tie.Need-returns-then-bytes-x
 returns-3 c =
     let e2 = c.before.before in
-    three _ _ _ e2.before.before.if1.false e2.if2.false c.if3.true
+    three _ _ _ e2.before.before.if-x-eq1.false e2.if-x-eq2.false c.if-bytes-x.true
 
-returns-5 : tie.Need-returns-5
-returns-5 c = sym (past_four c.before.before ∙ rw (sym c.before.rank-barred.ensures ∙ c.if5.true))
+returns-5 : tie.Need-returns-then-rank_barred
+returns-5 c = sym (past_four c.before.before ∙ rw (sym c.before.rank_barred.ensures ∙ c.if-rank_barred.true))
 
-returns-6 : tie.Need-returns-6
-returns-6 c = sym (past_four c.before.before ∙ rw (sym c.before.rank-barred.ensures ∙ c.if5.false))
+returns-6 : tie.Need-returns
+returns-6 c = sym (past_four c.before.before ∙ rw (sym c.before.rank_barred.ensures ∙ c.if-rank_barred.false))
 
 pub before_bits_spec : {M : Type 1} → statement M
 before_bits_spec =
     tie.close
     (tie.spec
-    (λ c. one _ _ _ c.if1.true)
-    (λ c. two _ _ _ c.if2.true)
+    (λ c. one _ _ _ c.if-x-eq1.true)
+    (λ c. two _ _ _ c.if-x-eq2.true)
     (λ c. search rules)
     returns-3
-    (λ c. four _ _ _ c.before.before.if3.false c.if4.true)
+    (λ c. four _ _ _ c.before.before.if-bytes-x.false c.if-x-eq4.true)
     (λ c κs. search rules)
     returns-5
     returns-6)

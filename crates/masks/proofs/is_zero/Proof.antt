@@ -11,11 +11,11 @@ use Rattle.masks.proofs.is_zero.Tie as tie
 far : (s : tie.Start) → s.args.width * s.args.l ≤ 4294967295 * 4294967295
 far s = mul-le-mul {n₂ = 4294967295} {m₂ = 4294967295} (omega arith) (omega arith)
 
-returns : tie.Need-returns
+returns : tie.Need-returns-then-mask-i
 unfolding is_zero bit
-returns c = rw (get_or-eq_default {A = ℕ} _ 0 c.if1.true, zero-div)
+returns c = rw (get_or-eq_default {A = ℕ} _ 0 c.if-mask-i.true, zero-div)
 
-returns-2 : tie.Need-returns-2
+returns-2 : tie.Need-returns
 unfolding is_zero bit
 returns-2 c = search rules
 
@@ -27,7 +27,7 @@ is_zero_spec =
     (λ c. omega (arith, far c))
     returns
     (λ c. search rules)
-    (λ c. let a = c.before.before.args in omega (arith, c.shared-slice-known.given ((a.width * a.l + a.m) / 8)))
+    (λ c. let a = c.before.before.args in omega (arith, c.shared_slice_known-1.given ((a.width * a.l + a.m) / 8)))
     (λ c. search rules)
     (λ c. search rules)
     returns-2)

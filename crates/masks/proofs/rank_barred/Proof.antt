@@ -8,11 +8,11 @@ use Rattle.plan.specs.Masks.{rank_barred}
 use Rattle.masks.proofs.rank_barred.Statement.{statement}
 use Rattle.masks.proofs.rank_barred.Tie as tie
 
-returns : tie.Need-returns
+returns : tie.Need-returns-then-v-eq0
 unfolding rank_barred
-returns c = rw (c.if1.true, div-one)
+returns c = rw (c.if-v-eq0.true, div-one)
 
-returns-2 : tie.Need-returns-2
+returns-2 : tie.Need-returns-then-v-gt8
 unfolding rank_barred
 returns-2 c =
     let a = c.before.before.args in
@@ -20,7 +20,7 @@ returns-2 c =
     let byte : a.ranks < 2 ^ 8 = omega arith in
     rw (div-eq_of_lt (lt_of_lt_of_le byte (pow_mono far)))
 
-returns-3 : tie.Need-returns-3
+returns-3 : tie.Need-returns
 unfolding rank_barred
 returns-3 c = search rules
 

@@ -6,21 +6,21 @@ use Rattle.masks.specs.Admitted.{up_to_first}
 use Rattle.masks.proofs.up_to_first.Statement.{statement}
 use Rattle.masks.proofs.up_to_first.Tie as tie
 
-returns : tie.Need-returns
+returns : tie.Need-returns-then-k-ne0
 unfolding up_to_first
-returns c = rw (sym c.before.before-bits.ensures, ne_eqb _ 0 c.if1.true)
+returns c = rw (sym c.before.before_bits-k.ensures, ne_eqb _ 0 c.if-k-ne0.true)
 
-returns-2 : tie.Need-returns-2
+returns-2 : tie.Need-returns-then-is_zero
 unfolding up_to_first
 returns-2 c =
     let e = c.before.before.before.before in
-    rw (sym e.before.before-bits.ensures ∙ e.if1.false, sym c.before.is_zero.ensures ∙ c.if2.true)
+    rw (sym e.before.before_bits-k.ensures ∙ e.if-k-ne0.false, sym c.before.is_zero.ensures ∙ c.if-is_zero.true)
 
-returns-3 : tie.Need-returns-3
+returns-3 : tie.Need-returns-else-is_zero
 unfolding up_to_first
 returns-3 c =
     let e = c.before.before.before.before in
-    rw (sym e.before.before-bits.ensures ∙ e.if1.false, sym c.before.is_zero.ensures ∙ c.if2.false)
+    rw (sym e.before.before_bits-k.ensures ∙ e.if-k-ne0.false, sym c.before.is_zero.ensures ∙ c.if-is_zero.false)
 
 pub up_to_first_spec : {M : Type 1} → statement M
 up_to_first_spec =

@@ -22,20 +22,20 @@ refused : (r : PanelReport) (k n : ℕ) {s : Sizes} → s ≡ sizes_of r.n1 r.n2
 refused r zero n e h p = absurd (h refl)
 refused r (suc k) n e h p = ap (λ (s : Sizes). own (suc k) s (beam 0 0)) e ∙ ap (own_by r) p
 
-returns : tie.Need-returns
+returns : tie.Need-returns-then-k-ne0
 returns c =
     let k = c.before in
-    refused _ k.refusal.result _ k.before.sizes-of.ensures c.if1.true k.refusal.ensures
+    refused _ k.refusal-k.result _ k.before.sizes_of-s.ensures c.if-k-ne0.true k.refusal-k.ensures
 
-second_beam_requires : tie.Need-second-beam-requires
+second_beam_requires : tie.Need-second_beam-other-requires
 second_beam_requires c κs =
-    (zero_in_range _ (sym c.before.refusal.ensures ∙ c.if1.false), c.before.before.sizes-of.ensures)
+    (zero_in_range _ (sym c.before.refusal-k.ensures ∙ c.if-k-ne0.false), c.before.before.sizes_of-s.ensures)
 
-returns-2 : tie.Need-returns-2
+returns-2 : tie.Need-returns
 returns-2 c =
     let e = c.before in
-    let zero_is = sym e.before.refusal.ensures ∙ e.if1.false in
-    (λ i. own 0 (e.before.before.sizes-of.ensures i) (c.second-beam.ensures i))
+    let zero_is = sym e.before.refusal-k.ensures ∙ e.if-k-ne0.false in
+    (λ i. own 0 (e.before.before.sizes_of-s.ensures i) (c.second_beam-other.ensures i))
     ∙ ap (own_by _) (sym zero_is)
 
 pub own_of_spec : {M : Type 1} → statement M

@@ -20,21 +20,21 @@ use Rattle.render.proofs.Weighed.{length_expanded, weight_stored}
 use Rattle.render.proofs.expand.Statement.{statement}
 use Rattle.render.proofs.expand.Tie as tie
 
-abbrev invariant-loop : tie.invariant-loop
-invariant-loop phases n out₀ i₀ at₀ out i at =
+abbrev invariant-loop-i : tie.invariant-loop-i
+invariant-loop-i phases n out₀ i₀ at₀ out i at =
     (i ≤ n) × (at ≡ 2 * i) × (out ≡ take at (weighed (take n phases)) ++ drop at out₀) × (length out ≡ length out₀)
 
-abbrev decreases-loop : tie.decreases-loop
-decreases-loop phases n out₀ i₀ at₀ out i at = n - i
+abbrev decreases-loop-i : tie.decreases-loop-i
+decreases-loop-i phases n out₀ i₀ at₀ out i at = n - i
 
 -- where a turn of the loop was entered
-abbrev start : tie.In-loop invariant-loop decreases-loop → tie.Start invariant-loop decreases-loop
+abbrev start : tie.In-loop-i invariant-loop-i decreases-loop-i → tie.Start invariant-loop-i decreases-loop-i
 start c = c.before.before.before.before
 
-returns : tie.Need-returns invariant-loop decreases-loop
-returns c = rw (length-take-le _ _ c.before.before.requires.long, lt-leb _ _ c.if1.true)
+returns : tie.Need-returns-then-out-n invariant-loop-i decreases-loop-i
+returns c = rw (length-take-le _ _ c.before.before.requires.long, lt-leb _ _ c.if-out-n.true)
 
-loop-holds : tie.Need-loop-init invariant-loop decreases-loop
+loop-holds : tie.Need-loop-i-init invariant-loop-i decreases-loop-i
 loop-holds c = (omega arith, refl, refl, refl)
 
 -- below a turn the weight of a phase is the table's entry at its nine bits, and what the code holds in a local is the number itself
@@ -52,29 +52,29 @@ local_x e q = ap (λ (w : Weight). to_z w16 (of_z w16 w.x)) q ∙ to_z-of_z (wei
 local_y : (e : ℕ) {w : Weight} → w ≡ weight e → to_z w16 (of_z w16 w.y) ≡ (weight e).y
 local_y e q = ap (λ (w : Weight). to_z w16 (of_z w16 w.y)) q ∙ to_z-of_z (weight_fits e).1
 
-loop-again : tie.Need-loop-preserved invariant-loop decreases-loop
+loop-again : tie.Need-loop-i-preserved invariant-loop-i decreases-loop-i
 loop-again c =
     let t = c.before.before.before.before in
-    let l = t.before.loop in
+    let l = t.before.loop-i in
     let s = start t in
     let e = get_or s.args.phases.now l.i 0 in
-    let w : c.before.before.weight_at.result ≡ weight e =
-    c.before.before.weight_at.ensures ∙ sym (weight_entry e (s.pre.below _ t.loop-test.true)) in (
+    let w : c.before.before.weight_at-w.result ≡ weight e =
+    c.before.before.weight_at-w.ensures ∙ sym (weight_entry e (s.requires.below _ t.loop-i-test.true)) in (
       omega arith,
       omega arith,
-      weight_stored s.args.phases.now s.args.n s.pre.long s.args.out.now l.i
-          l.at t.loop-test.true l.invariant.1 (omega (arith, t.before.before.if1.false)) l.invariant.2
+      weight_stored s.args.phases.now s.args.n s.requires.long s.args.out.now l.i
+          l.at t.loop-i-test.true l.invariant.1 (omega (arith, t.before.before.if-out-n.false)) l.invariant.2
           (local_x e w) (local_y e w),
       simp length-set l.invariant.3,
     )
 
-returns-2 : tie.Need-returns-2 invariant-loop decreases-loop
+returns-2 : tie.Need-returns invariant-loop-i decreases-loop-i
 returns-2 c =
-    let l = c.before.loop in
+    let l = c.before.loop-i in
     let s = c.before.before.before.before in
     let a = s.args in
     let long = length_expanded a.phases.now a.n s.requires.long in
-    rw (length-take-le _ _ s.requires.long, le-leb _ _ c.before.before.if1.false)
+    rw (length-take-le _ _ s.requires.long, le-leb _ _ c.before.before.if-out-n.false)
     (stored_all _ _ (2 * a.n) l.at l.invariant.2 long (omega arith)
     ∙ ap (λ (k : ℕ). weighed (take a.n a.phases.now) ++ drop k a.out.now) (sym long))
 
@@ -82,12 +82,12 @@ pub expand_spec : {M : Type 1} → statement M
 expand_spec =
     tie.close
     (tie.spec
-    invariant-loop
-    decreases-loop
+    invariant-loop-i
+    decreases-loop-i
     returns
     loop-holds
     (λ c. omega (arith, (start c).requires.long))
-    (λ c. omega (arith, (start c.before).pre.long))
+    (λ c. omega (arith, (start c.before).requires.long))
     (λ c κs. search rules)
     (λ c. omega arith)
     (λ c. omega arith)
@@ -98,5 +98,5 @@ expand_spec =
     (λ c. omega arith)
     (λ c. omega arith)
     loop-again
-    (λ c. c.before.loop.invariant.3)
+    (λ c. c.before.loop-i.invariant.3)
     returns-2)

@@ -24,10 +24,10 @@ weighed_layers os s own room {xs} e =
     ∙ weighed_fitting (leb (length (layers_in os s own)) (room / 2)) (layers_in os s own)
 
 expand_requires : tie.Need-expand-requires
-expand_requires c κs = front_reduced _ _ c.before.before.before.matrix.ensures
+expand_requires c κs = front_reduced _ _ c.before.before.before.matrix-n.ensures
 
 -- a small buffer has room for all that fits
-returns : tie.Need-returns
+returns : tie.Need-returns-then-out
 unfolding weights_in fitting
 returns c =
     let m = c.before.before.before.before.before in
@@ -37,21 +37,21 @@ returns c =
     let os = a.offsets.now in
     c.before.expand.ensures
     ∙ ap (λ (ns : List ℤ). over ns a.out.now)
-    (weighed_layers os a.s 48 room (front os a.s m.matrix.ensures)
-    ∙ ap weighed (fitting_same os a.s 48 272 (room / 2) (omega arith) (omega (arith, e.if1.true))))
+    (weighed_layers os a.s 48 room (front os a.s m.matrix-n.ensures)
+    ∙ ap weighed (fitting_same os a.s 48 272 (room / 2) (omega arith) (omega (arith, e.if-out.true))))
 
 expand_requires_2 : tie.Need-expand-requires-2
-expand_requires_2 c κs = front_reduced _ _ c.before.before.before.matrix2.ensures
+expand_requires_2 c κs = front_reduced _ _ c.before.before.before.matrix-n-2.ensures
 
-returns-2 : tie.Need-returns-2
+returns-2 : tie.Need-returns
 unfolding weights_in fitting
 returns-2 c =
     let m = c.before.before.before.before.before in
     let a = m.before.before.before.before.args in
     let os = a.offsets.now in
-    c.before.expand2.ensures
+    c.before.expand-2.ensures
     ∙ ap (λ (ns : List ℤ). over ns a.out.now)
-    (weighed_layers os a.s 272 (length a.out.now) (front os a.s m.matrix2.ensures))
+    (weighed_layers os a.s 272 (length a.out.now) (front os a.s m.matrix-n-2.ensures))
 
 pub weights_spec : {M : Type 1} → statement M
 weights_spec =

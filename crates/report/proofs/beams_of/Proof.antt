@@ -18,27 +18,27 @@ refused_said : (r : Report) (k : ℕ) {s : Sizes} → s ≡ sizes_of r.n1 r.n2 �
 refused_said r zero e h = absurd (h refl)
 refused_said r (suc k) e h = ap (refused_with (suc k)) e
 
-sizes : (c : tie.After-ranges-of) → let r = c.before.args.r in c.ranges-of.result.sizes ≡ sizes_of r.n1 r.n2
-sizes c = ap (λ (w : Ranges). w.sizes) c.ranges-of.ensures
+sizes : (c : tie.After-ranges_of-w) → let r = c.before.args.r in c.ranges_of-w.result.sizes ≡ sizes_of r.n1 r.n2
+sizes c = ap (λ (w : Ranges). w.sizes) c.ranges_of-w.ensures
 
 -- no number was given
-passed : (c : tie.Else1) → first (rule c.before.before.before.args.r) own_order ≡ 0
-passed c = sym c.before.refusal.ensures ∙ c.if1.false
+passed : (c : tie.Else-k-ne0) → first (rule c.before.before.before.args.r) own_order ≡ 0
+passed c = sym c.before.refusal-k.ensures ∙ c.if-k-ne0.false
 
-returns : tie.Need-returns
+returns : tie.Need-returns-then-k-ne0
 unfolding beams_of
 returns c =
-    let k = c.before.before in
+    let k = c.before.before.before in
     let r = k.before.before.args.r in
-    c.refused.ensures ∙ refused_said r _ (sizes k.before) c.before.if1.true ∙ ap (said r) k.refusal.ensures
+    c.refused.ensures ∙ refused_said r _ (sizes k.before) c.before.before.if-k-ne0.true ∙ ap (said r) k.refusal-k.ensures
 
 choose_requires : tie.Need-choose-requires
-choose_requires c κs = (zero_in_range _ (passed c), sizes c.before.before)
+choose_requires c κs = (zero_in_range _ (passed c.before), sizes c.before.before.before)
 
-returns-2 : tie.Need-returns-2
+returns-2 : tie.Need-returns
 unfolding beams_of
 returns-2 c =
-    let e = c.before in
+    let e = c.before.before in
     rw (passed e, c.choose.ensures, sizes e.before.before)
 
 pub beams_of_spec : {M : Type 1} → statement M

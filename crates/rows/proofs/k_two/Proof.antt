@@ -2,7 +2,6 @@
 use mathlib.Core.Path.{◌≡◌, ◌∙◌}
 use mathlib.Core.Bool.{cond}
 use mathlib.Core.List.{[], ◌∷◌}
-use mathlib.Core.Logic.{⊎_elim}
 use lib.Dec.{eqb}
 use borrow.Author.Rules.{rules}
 use borrow.Author.Tests.{eq-eqb, ne_eqb, lt-ltb, le-ltb}
@@ -10,6 +9,7 @@ use Rattle.settings.specs.Ranges.{beam, k_two}
 use Rattle.rows.proofs.Blanks.{two_blanks}
 use Rattle.rows.proofs.k_two.Statement.{statement}
 use Rattle.rows.proofs.k_two.Tie as tie
+use Rattle.rows.proofs.k_two.Lts.{then-n2-gt1+else-n2-n1+else-n1-n2, else-n2-gt1}
 
 -- N1 > N2 > 1
 returns : tie.Need-returns-then-n2-n1
@@ -34,10 +34,10 @@ narrow : (c : tie.Joined-n2-gt1)
     ≡ cond (eqb a.n1 2) (beam 0 0 ∷ beam 1 0 ∷ []) (beam 0 0 ∷ beam 1 0 ∷ beam 2 0 ∷ beam 3 0 ∷ [])
 unfolding k_two
 narrow c =
-    ⊎_elim
-    (λ w. rw (lt-ltb 1 _ w.0.taken, le-ltb _ _ w.1.left, ne_eqb _ _ w.2.left))
-    (λ w. rw (le-ltb 1 _ w.left))
-    c.if-n2-gt1.branch
+    elim c.if-n2-gt1.branch [
+        then-n2-gt1+else-n2-n1+else-n1-n2 w ↦ rw (lt-ltb 1 _ w.if-n2-gt1.true, le-ltb _ _ w.if-n2-n1.false, ne_eqb _ _ w.if-n1-n2.false)
+      | else-n2-gt1 w ↦ rw (le-ltb 1 _ w.if-n2-gt1.false)
+    ]
 
 -- N1 = 2
 returns-3 : tie.Need-returns-then-n1-eq2

@@ -19,7 +19,7 @@ below (suc (suc (suc (suc i)))) a b c d p q r s = refl
 
 returns-5 : tie.Need-returns-in_default
 returns-5 c =
-    let not = c.match.rest in
+    let not = c.in_default.in_default-own.rest in
     below _ _ _ _ _ not.0.0.0.1 not.0.0.1 not.0.1 not.1
 
 pub row_spec : {M : Type 1} → statement M

@@ -9,23 +9,23 @@ use Rattle.text.proofs.Writes.{writes_nothing, writes_composed}
 use Rattle.text.proofs.answer.Statement.{statement}
 use Rattle.text.proofs.answer.Tie as tie
 
-returns : tie.Need-returns
+returns : tie.Need-returns-then-not-is_printable
 returns c =
-    let no = sym c.before.is-printable.ensures ∙ c.if1.true in
+    let no = sym c.before.is_printable.ensures ∙ c.if-not-is_printable.true in
     rw no (writes_nothing _ _)
 
-may : (c : tie.Else1) → let a = c.before.before.before.before.args in
+may : (c : tie.Else-not-is_printable) → let a = c.before.before.before.before.args in
     printable a.a a.phases.now ≡ true
-may c = sym c.before.is-printable.ensures ∙ c.if1.false
+may c = sym c.before.is_printable.ensures ∙ c.if-not-is_printable.false
 
-compose_requires : tie.Need-compose-requires
+compose_requires : tie.Need-compose-k-requires
 compose_requires c κs = (may c.before, lit≤ tt)
 
-returns-2 : tie.Need-returns-2
+returns-2 : tie.Need-returns
 returns-2 c =
     let copied = c.before.before in
     let text = copied.before.before.before.before in
-    writes_composed (may text.before.before) text.compose.ensures copied.put.ensures
+    writes_composed (may text.before.before) text.compose-k.ensures copied.put.ensures
 
 pub answer_spec : {M : Type 1} → statement M
 answer_spec =

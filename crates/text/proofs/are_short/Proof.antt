@@ -13,27 +13,27 @@ use Rattle.text.proofs.Digits.{short_more, short_not}
 use Rattle.text.proofs.are_short.Statement.{statement}
 use Rattle.text.proofs.are_short.Tie as tie
 
-abbrev invariant-loop : tie.invariant-loop
-invariant-loop phases n i₀ i = (i ≤ n) × (three_digits (take i phases) ≡ true)
+abbrev invariant-loop-i : tie.invariant-loop-i
+invariant-loop-i phases n i₀ i = (i ≤ n) × (three_digits (take i phases) ≡ true)
 
-abbrev decreases-loop : tie.decreases-loop
-decreases-loop phases n i₀ i = n - i
+abbrev decreases-loop-i : tie.decreases-loop-i
+decreases-loop-i phases n i₀ i = n - i
 
-loop-holds : tie.Need-loop-init invariant-loop decreases-loop
+loop-holds : tie.Need-loop-i-init invariant-loop-i decreases-loop-i
 unfolding three_digits each
 loop-holds c = (omega arith, refl)
 
-returns : tie.Need-returns invariant-loop decreases-loop
-returns c = sym (short_not _ _ _ c.before.before.loop-test.true c.if1.true)
+returns : tie.Need-returns-then-phases-i-gt999 invariant-loop-i decreases-loop-i
+returns c = sym (short_not _ _ _ c.before.before.loop-i-test.true c.if-phases-i-gt999.true)
 
-loop-again : tie.Need-loop-preserved invariant-loop decreases-loop
+loop-again : tie.Need-loop-i-preserved invariant-loop-i decreases-loop-i
 loop-again c =
-    let l = c.before.before.before.loop in
-    (omega arith, rw add-one (short_more l.i _ l.invariant.1 c.if1.false))
+    let l = c.before.before.before.loop-i in
+    (omega arith, rw add-one (short_more l.i _ l.invariant.1 c.if-phases-i-gt999.false))
 
-returns-2 : tie.Need-returns-2 invariant-loop decreases-loop
+returns-2 : tie.Need-returns invariant-loop-i decreases-loop-i
 returns-2 c =
-    let l = c.before.loop in
+    let l = c.before.loop-i in
     let all : c.before.before.args.n ≡ l.i = omega arith in
     rw all (sym l.invariant.1)
 
@@ -41,8 +41,8 @@ pub are_short_spec : {M : Type 1} → statement M
 are_short_spec =
     tie.close
     (tie.spec
-    invariant-loop
-    decreases-loop
+    invariant-loop-i
+    decreases-loop-i
     loop-holds
     (λ c. search rules)
     (λ c. omega arith)

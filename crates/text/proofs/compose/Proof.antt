@@ -20,11 +20,11 @@ opened_requires c κs =
     let number = ended_few 3 s.args.a.refusal 0 (lit≤ tt) (omega (arith, (limits _ _ s.requires.0).refusal)) in
     omega arith
 
-returns : tie.Need-returns
+returns : tie.Need-returns-then-number-ne0
 returns c =
     let number = c.before.before in
     let t = number.before.before.before in
-    rw (text_refused t.before.before.before.args.a _ t.if1.true, refused_words) number.opened.ensures
+    rw (text_refused t.before.before.before.args.a _ t.if-number-ne0.true, refused_words) number.opened.ensures
 
 -- the first line
 first : (c : tie.Start) → length (ok_text c.args.a) ≤ 12
@@ -32,7 +32,7 @@ first c =
     let known = limits _ _ c.requires.0 in
     ok_few c.args.a (omega (arith, known.ports)) (omega (arith, known.layers)) (omega (arith, known.scale))
 
-accepted_requires : tie.Need-accepted-requires
+accepted_requires : tie.Need-accepted-k-requires
 accepted_requires c κs = omega (arith, first c.before.before.before.before)
 
 lines_requires : tie.Need-lines-requires
@@ -41,21 +41,20 @@ lines_requires c κs =
     let s = e.before.before.before.before.before in
     let known = limits _ _ s.requires.0 in
     let entries = mul-le-mul known.layers known.ports in
-    (phases_many _ _ s.requires.0, phases_short _ _ s.requires.0, omega (arith, first s, e.accepted.ensures.long))
+    (phases_many _ _ s.requires.0, phases_short _ _ s.requires.0, omega (arith, first s, e.accepted-k.ensures.long))
 
-returns-2 : tie.Need-returns-2
+returns-2 : tie.Need-returns
 returns-2 c =
     let e = c.before.before in
     let first = e.before.before.before.before.before.before in
     let t = first.before.before in
-    rw (text_accepted t.before.before.before.args.a _ t.if1.false)
-    (adds_then first.accepted.ensures e.lines.ensures)
+    rw (text_accepted t.before.before.before.args.a _ t.if-number-ne0.false)
+    (adds_then first.accepted-k.ensures e.lines.ensures)
 
 pub compose_spec : {M : Type 1} → statement M
 compose_spec =
     tie.close
     (tie.spec
-    (λ c. refl)
     (λ c. omega arith)
     opened_requires
     (λ c. omega arith)

@@ -10,12 +10,12 @@ unfolding ending
 some_left zero h = absurd (h refl)
 some_left (suc left) h = refl
 
-returns : tie.Need-returns
+returns : tie.Need-returns-then-left-eq0
 unfolding ending
-returns c = rw c.if1.true
+returns c = rw c.if-left-eq0.true
 
-returns-2 : tie.Need-returns-2
-returns-2 c = some_left _ c.if1.false
+returns-2 : tie.Need-returns-else-left-eq0
+returns-2 c = some_left _ c.if-left-eq0.false
 
 pub ending_spec : {M : Type 1} → statement M
 ending_spec = tie.close (tie.spec returns returns-2)

@@ -9,45 +9,45 @@ use Rattle.text.specs.Text.{printable}
 use Rattle.text.proofs.is_printable.Statement.{statement}
 use Rattle.text.proofs.is_printable.Tie as tie
 
-returns : tie.Need-returns
+returns : tie.Need-returns-then-a-gt999
 unfolding printable
-returns c = rw (lt-leb _ 999 c.if1.true)
+returns c = rw (lt-leb _ 999 c.if-a-gt999.true)
 
-returns-2 : tie.Need-returns-2
+returns-2 : tie.Need-returns-then-a-gt32
 unfolding printable
-returns-2 c = rw (lt-leb _ 32 c.if2.true, and_nothing _)
+returns-2 c = rw (lt-leb _ 32 c.if-a-gt32.true, and_nothing _)
 
-returns-3 : tie.Need-returns-3
+returns-3 : tie.Need-returns-then-a-gt8
 unfolding printable
-returns-3 c = rw (lt-leb _ 8 c.if3.true, and_nothing _)
+returns-3 c = rw (lt-leb _ 8 c.if-a-gt8.true, and_nothing _)
 
-returns-4 : tie.Need-returns-4
+returns-4 : tie.Need-returns-then-a-gt999-2
 unfolding printable
-returns-4 c = rw (lt-leb _ 999 c.if4.true, and_nothing _)
+returns-4 c = rw (lt-leb _ 999 c.if-a-gt999-2.true, and_nothing _)
 
-small : (c : tie.After-struct-known5) → let third = c.before.before.before in
+small : (c : tie.After-struct_known-5-1) → let third = c.before.before.before in
     let a = third.before.before.before.before.before.before.before.args.a in
     a.layers * a.ports ≤ 8 * 32
-small c = let third = c.before.before.before in mul-le-mul third.if3.false third.before.before.if2.false
+small c = let third = c.before.before.before in mul-le-mul third.if-a-gt8.false third.before.before.if-a-gt32.false
 
-returns-5 : tie.Need-returns-5
+returns-5 : tie.Need-returns-then-phases-n
 unfolding printable
-returns-5 c = rw (lt-leb _ _ c.if5.true, and_nothing _)
+returns-5 c = rw (lt-leb _ _ c.if-phases-n.true, and_nothing _)
 
-returns-6 : tie.Need-returns-6
+returns-6 : tie.Need-returns
 unfolding printable
 returns-6 c =
     let fourth = c.before.before.before in
     let third = fourth.before.before in
     let second = third.before.before in
     rw (
-      le-leb _ 999 second.before.before.if1.false,
-      le-leb _ 32 second.if2.false,
-      le-leb _ 8 third.if3.false,
-      le-leb _ 999 fourth.if4.false,
-      le-leb _ _ c.before.if5.false,
+      le-leb _ 999 second.before.before.if-a-gt999.false,
+      le-leb _ 32 second.if-a-gt32.false,
+      le-leb _ 8 third.if-a-gt8.false,
+      le-leb _ 999 fourth.if-a-gt999-2.false,
+      le-leb _ _ c.before.if-phases-n.false,
     )
-    c.are-short.ensures
+    c.are_short.ensures
 
 pub is_printable_spec : {M : Type 1} → statement M
 is_printable_spec =

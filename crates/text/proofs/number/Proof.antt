@@ -8,7 +8,7 @@ use Rattle.text.proofs.Writes.{writes_composed}
 use Rattle.text.proofs.number.Statement.{statement}
 use Rattle.text.proofs.number.Tie as tie
 
-ended_requires : tie.Need-ended-requires
+ended_requires : tie.Need-ended-k-requires
 ended_requires c κs =
     let a = c.before.before.args in
     omega (arith, ended_few 20 a.n a.left (lit≤ tt) (omega arith))
@@ -17,7 +17,7 @@ returns : tie.Need-returns
 returns c =
     let copied = c.before.before in
     let text = copied.before.before.before.before in
-    writes_composed refl text.ended.ensures copied.put.ensures
+    writes_composed refl text.ended-k.ensures copied.put.ensures
 
 pub number_spec : {M : Type 1} → statement M
 number_spec =

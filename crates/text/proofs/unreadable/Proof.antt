@@ -9,4 +9,4 @@ returns : tie.Need-returns
 returns c = rw unreadable_bytes c.before.before.put.ensures
 
 pub unreadable_spec : {M : Type 1} → statement M
-unreadable_spec = tie.close (tie.spec (λ c. refl) (λ c κs. tt) (λ c. omega arith) returns)
+unreadable_spec = tie.close (tie.spec (λ c κs. tt) (λ c. omega arith) returns)

@@ -10,32 +10,32 @@ use Rattle.writer.proofs.needed.Statement.{statement}
 use Rattle.writer.proofs.needed.Tie as tie
 
 -- the first tests hold
-passed : (c : tie.Else1) → let a = c.before.args in five a.v a.pairs a.rows a.columns ≡ true
-passed c = c.if1.false
+passed : (c : tie.Else-not-v-pairs) → let a = c.before.args in five a.v a.pairs a.rows a.columns ≡ true
+passed c = c.if-not-v-pairs.false
 
-sizes : (c : tie.Else1) → let a = c.before.args in Products a.v a.pairs (a.rows * a.columns)
+sizes : (c : tie.Else-not-v-pairs) → let a = c.before.args in Products a.v a.pairs (a.rows * a.columns)
 sizes c =
     let z = five_sizes _ _ _ _ (passed c) in
     products _ _ _ z.0 z.1 z.4
 
-returns : tie.Need-returns
+returns : tie.Need-returns-then-not-v-pairs
 returns c =
     let a = c.before.args in
-    let large : five a.v a.pairs a.rows a.columns ≡ false = c.if1.true in
+    let large : five a.v a.pairs a.rows a.columns ≡ false = c.if-not-v-pairs.true in
     rw large
 
-returns-2 : tie.Need-returns-2
-returns-2 c = rw (passed c.before, lt-leb _ _ c.if2.true)
+returns-2 : tie.Need-returns-then-height-gt32
+returns-2 c = rw (passed c.before, lt-leb _ _ c.if-height-gt32.true)
 
-returns-3 : tie.Need-returns-3
+returns-3 : tie.Need-returns-then-room-n
 returns-3 c =
     let e = c.before in
-    rw (passed e.before, le-leb _ _ e.if2.false, lt-leb _ _ c.if3.true)
+    rw (passed e.before, le-leb _ _ e.if-height-gt32.false, lt-leb _ _ c.if-room-n.true)
 
-returns-4 : tie.Need-returns-4
+returns-4 : tie.Need-returns
 returns-4 c =
     let e = c.before in
-    rw (passed e.before, le-leb _ _ e.if2.false, le-leb _ _ c.if3.false)
+    rw (passed e.before, le-leb _ _ e.if-height-gt32.false, le-leb _ _ c.if-room-n.false)
 
 pub needed_spec : {M : Type 1} → statement M
 needed_spec =

@@ -9,6 +9,6 @@ unfolding i14_values
 i14_values_spec =
     tie.close
     (tie.spec
-    (λ c. rw (eq-eqb _ 2 c.if1.true))
-    (λ c. rw (ne_eqb _ 2 c.before.if1.false, eq-eqb _ 2 c.if2.true))
-    (λ c. rw (ne_eqb _ 2 c.before.if1.false, ne_eqb _ 2 c.if2.false)))
+    (λ c. rw (eq-eqb _ 2 c.if-mode-eq2.true))
+    (λ c. rw (ne_eqb _ 2 c.before.if-mode-eq2.false, eq-eqb _ 2 c.if-ng-eq2.true))
+    (λ c. rw (ne_eqb _ 2 c.before.if-mode-eq2.false, ne_eqb _ 2 c.if-ng-eq2.false)))

@@ -9,7 +9,7 @@ unfolding i2_values
 i2_values_spec =
     tie.close
     (tie.spec
-    (λ c. rw (eq-eqb _ 2 c.before.if1.true, eq-eqb _ 1 c.if2.true))
-    (λ c. rw (eq-eqb _ 2 c.before.if1.true, ne_eqb _ 1 c.if2.false))
-    (λ c. rw (ne_eqb _ 2 c.before.if1.false, eq-eqb _ 1 c.if3.true))
-    (λ c. rw (ne_eqb _ 2 c.before.if1.false, ne_eqb _ 1 c.if3.false)))
+    (λ c. rw (eq-eqb _ 2 c.before.if-mode-eq2.true, eq-eqb _ 1 c.if-v-eq1.true))
+    (λ c. rw (eq-eqb _ 2 c.before.if-mode-eq2.true, ne_eqb _ 1 c.if-v-eq1.false))
+    (λ c. rw (ne_eqb _ 2 c.before.if-mode-eq2.false, eq-eqb _ 1 c.if-v-eq1-2.true))
+    (λ c. rw (ne_eqb _ 2 c.before.if-mode-eq2.false, ne_eqb _ 1 c.if-v-eq1-2.false)))

@@ -36,27 +36,27 @@ by_sizes s =
     rw (s.requires.0, (known _ _ _ s.requires.1).one_panel, rows_of r.ng r.n1 r.n2 r.v s.requires.1)
 
 -- where i11 and i12 are in range
-in_two : (c : tie.Else2) → let a = c.before.before.before.before.before.before.args in
+in_two : (c : tie.Else-s-r-2) → let a = c.before.before.before.before.before.before.args in
     first (rule a.r) (6 ∷ 7 ∷ 8 ∷ []) ≡ cond (leb (rows_by a.s.ports a.r.v) a.r.i13) 8 0
 in_two c =
     let one = c.before.before.before in
-    rw (by_sizes one.before.before.before, lt-leb _ _ one.if1.false, lt-leb _ _ c.if2.false)
+    rw (by_sizes one.before.before.before, lt-leb _ _ one.if-s-r.false, lt-leb _ _ c.if-s-r-2.false)
 
-returns : tie.Need-returns
-returns c = rw (by_sizes c.before.before.before, le-leb _ _ c.if1.true)
+returns : tie.Need-returns-then-s-r
+returns c = rw (by_sizes c.before.before.before, le-leb _ _ c.if-s-r.true)
 
-returns-2 : tie.Need-returns-2
+returns-2 : tie.Need-returns-then-s-r-2
 returns-2 c =
     let one = c.before.before.before in
-    rw (by_sizes one.before.before.before, lt-leb _ _ one.if1.false, le-leb _ _ c.if2.true)
+    rw (by_sizes one.before.before.before, lt-leb _ _ one.if-s-r.false, le-leb _ _ c.if-s-r-2.true)
 
-returns-3 : tie.Need-returns-3
+returns-3 : tie.Need-returns-then-i13_values-r
 returns-3 c =
-    rw (in_two c.before.before.before, sym c.before.before.i13-values.ensures, le-leb _ _ c.if3.true)
+    rw (in_two c.before.before.before, sym c.before.before.i13_values.ensures, le-leb _ _ c.if-i13_values-r.true)
 
-returns-4 : tie.Need-returns-4
+returns-4 : tie.Need-returns
 returns-4 c =
-    rw (in_two c.before.before.before, sym c.before.before.i13-values.ensures, lt-leb _ _ c.if3.false)
+    rw (in_two c.before.before.before, sym c.before.before.i13_values.ensures, lt-leb _ _ c.if-i13_values-r.false)
 
 pub on_beams_spec : {M : Type 1} → statement M
 on_beams_spec = tie.close (tie.spec returns returns-2 (λ c κs. search rules) returns-3 returns-4)

@@ -14,30 +14,30 @@ tested : {vs values : List ℕ} (given : List ℕ) {t : Bool} → vs ≡ values 
 tested given e f = sym (f ∙ ap (λ (ns : List ℕ). outside ns given) e)
 
 -- of i14
-first_tested : (c : tie.After-is-outside) → let r = c.before.before.before.args.r in
-    outside (i14_values r.ng r.mode) r.i14 ≡ c.is-outside.result
-first_tested c = tested _ c.before.i14-values.ensures c.is-outside.ensures
+first_tested : (c : tie.After-is_outside) → let r = c.before.before.before.args.r in
+    outside (i14_values r.ng r.mode) r.i14 ≡ c.is_outside.result
+first_tested c = tested _ c.before.i14_values.ensures c.is_outside.ensures
 
 -- and of i2
-second_tested : (c : tie.After-is-outside2) → let r = c.before.before.before.before.before.before.before.args.r in
-    outside (i2_values r.mode r.v) r.i2 ≡ c.is-outside2.result
-second_tested c = tested _ c.before.i2-values.ensures c.is-outside2.ensures
+second_tested : (c : tie.After-is_outside-2) → let r = c.before.before.before.before.before.before.before.args.r in
+    outside (i2_values r.mode r.v) r.i2 ≡ c.is_outside-2.result
+second_tested c = tested _ c.before.i2_values.ensures c.is_outside-2.ensures
 
-returns : tie.Need-returns
+returns : tie.Need-returns-then-is_outside
 unfolding first rule
-returns c = rw (first_tested c.before, c.if1.true)
+returns c = rw (first_tested c.before, c.if-is_outside.true)
 
-returns-2 : tie.Need-returns-2
+returns-2 : tie.Need-returns-then-is_outside-2
 unfolding first rule
 returns-2 c =
     let e = c.before.before.before.before in
-    rw (first_tested e.before, e.if1.false, second_tested c.before, c.if2.true)
+    rw (first_tested e.before, e.if-is_outside.false, second_tested c.before, c.if-is_outside-2.true)
 
-returns-3 : tie.Need-returns-3
+returns-3 : tie.Need-returns
 unfolding first rule
 returns-3 c =
     let e = c.before.before.before.before in
-    rw (first_tested e.before, e.if1.false, second_tested c.before, c.if2.false)
+    rw (first_tested e.before, e.if-is_outside.false, second_tested c.before, c.if-is_outside-2.false)
 
 pub on_phases_spec : {M : Type 1} → statement M
 on_phases_spec =

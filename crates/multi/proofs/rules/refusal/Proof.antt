@@ -11,36 +11,36 @@ use Rattle.multi.proofs.rules.refusal.Statement.{statement}
 use Rattle.multi.proofs.rules.refusal.Tie as tie
 
 -- none of the first part
-passed : (c : tie.Else1) → None (rule c.before.before.args.r) (1 ∷ 2 ∷ 4 ∷ [])
+passed : (c : tie.Else-k-ne0) → None (rule c.before.before.args.r) (1 ∷ 2 ∷ 4 ∷ [])
 unfolding numbered
-passed c = first_none _ (1 ∷ 2 ∷ 4 ∷ []) tt (sym c.before.on-setting.ensures ∙ c.if1.false)
+passed c = first_none _ (1 ∷ 2 ∷ 4 ∷ []) tt (sym c.before.on_setting-k.ensures ∙ c.if-k-ne0.false)
 
 -- nor of the second
-passed_beams : (c : tie.Else2) → None (rule c.before.before.before.before.args.r) (6 ∷ 7 ∷ 8 ∷ [])
+passed_beams : (c : tie.Else-n-ne0) → None (rule c.before.before.before.before.args.r) (6 ∷ 7 ∷ 8 ∷ [])
 unfolding numbered
-passed_beams c = first_none _ (6 ∷ 7 ∷ 8 ∷ []) tt (sym c.before.on-beams.ensures ∙ c.if2.false)
+passed_beams c = first_none _ (6 ∷ 7 ∷ 8 ∷ []) tt (sym c.before.on_beams-n.ensures ∙ c.if-n-ne0.false)
 
-returns : tie.Need-returns
+returns : tie.Need-returns-then-k-ne0
 returns c =
-    let e = c.before.on-setting.ensures in
-    e ∙ sym (first_stop (rule c.before.before.args.r) (1 ∷ 2 ∷ 4 ∷ []) indices (λ z. c.if1.true (e ∙ z)))
+    let e = c.before.on_setting-k.ensures in
+    e ∙ sym (first_stop (rule c.before.before.args.r) (1 ∷ 2 ∷ 4 ∷ []) indices (λ z. c.if-k-ne0.true (e ∙ z)))
 
-on_beams_requires : tie.Need-on-beams-requires
+on_beams_requires : tie.Need-on_beams-n-requires
 unfolding rule among
 on_beams_requires c κs = (c.before.before.requires, not-false _ ((passed c).at 1 tt))
 
-returns-2 : tie.Need-returns-2
+returns-2 : tie.Need-returns-then-n-ne0
 returns-2 c =
     let r = c.before.before.before.before.args.r in
-    let e = c.before.on-beams.ensures in
+    let e = c.before.on_beams-n.ensures in
     e ∙ sym (none_first (rule r) (1 ∷ 2 ∷ 4 ∷ []) indices (passed c.before.before)
-    ∙ first_stop (rule r) (6 ∷ 7 ∷ 8 ∷ []) (12 ∷ 9 ∷ []) (λ z. c.if2.true (e ∙ z)))
+    ∙ first_stop (rule r) (6 ∷ 7 ∷ 8 ∷ []) (12 ∷ 9 ∷ []) (λ z. c.if-n-ne0.true (e ∙ z)))
 
-returns-3 : tie.Need-returns-3
+returns-3 : tie.Need-returns
 returns-3 c =
     let two = c.before in
     let r = two.before.before.before.before.args.r in
-    c.on-phases.ensures
+    c.on_phases.ensures
     ∙ sym (none_first (rule r) (1 ∷ 2 ∷ 4 ∷ []) indices (passed two.before.before)
     ∙ none_first (rule r) (6 ∷ 7 ∷ 8 ∷ []) (12 ∷ 9 ∷ []) (passed_beams two))
 

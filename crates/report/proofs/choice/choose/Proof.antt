@@ -16,87 +16,87 @@ use Rattle.report.proofs.choice.choose.Statement.{statement}
 use Rattle.report.proofs.choice.choose.Tie as tie
 
 -- where the function starts, seen from behind its first test and from B; and B, seen from behind the later tests
-abbrev start₁ : tie.Else1 → tie.Start
+abbrev start₁ : tie.Else-r-eq1 → tie.Start
 start₁ c = c.before.before
 
-abbrev start_b : tie.After-base-of → tie.Start
+abbrev start_b : tie.After-base_of-a → tie.Start
 start_b c = start₁ c.before.before
 
-abbrev base₃ : tie.Else3 → tie.After-base-of
+abbrev base₃ : tie.Else-r-eq1-2 → tie.After-base_of-a
 base₃ c = c.before.before.before.before
 
-half : (c : tie.After-is-half-length) → c.is-half-length.result ≡ is_half (start₁ c.before).args.r
+half : (c : tie.After-is_half_length-half) → c.is_half_length-half.result ≡ is_half (start₁ c.before).args.r
 half c =
     let s = start₁ c.before in
-    c.is-half-length.ensures ∙ ap (λ (z : Sizes). half_length z.ports s.args.r.v) s.pre.1
-    ∙ rw s.pre.0.setting
+    c.is_half_length-half.ensures ∙ ap (λ (z : Sizes). half_length z.ports s.args.r.v) s.requires.1
+    ∙ rw s.requires.0.setting
 
 -- two to four layers, of whole beams
-few : (c : tie.Else3) → (start_b (base₃ c)).args.r.v ≤ 4
-few c = omega (arith, c.before.before.if2.false)
+few : (c : tie.Else-r-eq1-2) → (start_b (base₃ c)).args.r.v ≤ 4
+few c = omega (arith, c.before.before.if-r-ge5.false)
 
-whole : (c : tie.Else4) → is_half (start_b (base₃ c.before)).args.r ≡ false
-whole c = sym (half (base₃ c.before).before) ∙ c.if4.false
+whole : (c : tie.Else-half) → is_half (start_b (base₃ c.before)).args.r ≡ false
+whole c = sym (half (base₃ c.before).before) ∙ c.if-half.false
 
-returns : tie.Need-returns
+returns : tie.Need-returns-then-r-eq1
 returns c =
     let s = c.before.before.before in
-    two_ports_said _ s.requires.0 c.before.if1.true _ c.said.ensures
+    two_ports_said _ s.requires.0 c.before.if-r-eq1.true _ c.said.ensures
 
-base_of_requires : tie.Need-base-of-requires
+base_of_requires : tie.Need-base_of-a-requires
 base_of_requires c κs =
     let s = start₁ c.before in
-    (s.pre.0, s.pre.1, half c)
+    (s.requires.0, s.requires.1, half c)
 
-returns-3 : tie.Need-returns-3
+returns-3 : tie.Need-returns-then-r-eq1-2
 returns-3 c =
     let b = c.before.before.before.before.before in
     let whole = whole_few (start_b b).args.r (omega arith) in
-    said_single _ _ b.base-of.ensures c.said2.ensures whole (rw (eq-eqb _ 1 c.before.if3.true)) (omega arith)
+    said_single _ _ b.base_of-a.ensures c.said-then-r-eq1-2.ensures whole (rw (eq-eqb _ 1 c.before.if-r-eq1-2.true)) (omega arith)
 
-returns-4 : tie.Need-returns-4
+returns-4 : tie.Need-returns-then-half
 returns-4 c =
     let more = c.before.before in
     let b = base₃ more in
-    let e = sym (half b.before) ∙ c.before.if4.true in
-    said_single _ _ b.base-of.ensures c.said3.ensures e (rw (ne_eqb _ 1 more.if3.false)) (few more)
+    let e = sym (half b.before) ∙ c.before.if-half.true in
+    said_single _ _ b.base_of-a.ensures c.said-then-half.ensures e (rw (ne_eqb _ 1 more.if-r-eq1-2.false)) (few more)
 
-k_row_requires : tie.Need-k-row-requires
+k_row_requires : tie.Need-k_row-requires
 k_row_requires c κs =
     let more = c.before in
     let b = base₃ more in
     let s = start_b b in (
-      s.pre.0,
-      b.before.before.if1.left,
+      s.requires.0,
+      b.before.before.if-r-eq1.false,
       whole c,
-      omega (arith, v_some _ s.pre.0, more.if3.false),
+      omega (arith, v_some _ s.requires.0, more.if-r-eq1-2.false),
       few more,
     )
 
 -- whichever of the report's numbers it is given, they are small
-moved_by_requires : tie.Need-moved-by-requires
+moved_by_requires : tie.Need-moved_by-b-requires
 moved_by_requires c κs =
     let b = base₃ c.before.before in
     let s = start_b b in
     let r = s.args.r in
-    let h = s.pre.0 in
-    let asked = k_row_requires c.before c.k-row.lifetimes in
-    let small : Small b.base-of.result = moved_small r h b.base-of.ensures in (
+    let h = s.requires.0 in
+    let asked = k_row_requires c.before c.k_row.lifetimes in
+    let small : Small b.base_of-a.result = moved_small r h b.base_of-a.ensures in (
       h.setting,
-      b.before.before.if1.left,
-      s.pre.1,
+      b.before.before.if-r-eq1.false,
+      s.requires.1,
       record { l = omega (arith, small.l, i11_small r h); m = omega (arith, small.m, i12_small r h) },
-      rw c.k-row.ensures (row_small r asked.1 h asked.2 asked.3 asked.4),
+      rw c.k_row.ensures (row_small r asked.1 h asked.2 asked.3 asked.4),
     )
 
 -- the second beam is B moved by the row of k
-returns-5 : tie.Need-returns-5
+returns-5 : tie.Need-returns
 returns-5 c =
     let e = c.before.before.before in
     let more = e.before in
     let b = base₃ more in
-    let second = moved_from_base _ c.before.moved_by.ensures b.base-of.ensures c.before.before.k-row.ensures in
-    said_two _ _ b.base-of.ensures c.said4.ensures (whole e) more.if3.false (few more) second
+    let second = moved_from_base _ c.before.moved_by-b.ensures b.base_of-a.ensures c.before.before.k_row.ensures in
+    said_two _ _ b.base_of-a.ensures c.said-2.ensures (whole e) more.if-r-eq1-2.false (few more) second
 
 pub choose_spec : {M : Type 1} → statement M
 choose_spec =

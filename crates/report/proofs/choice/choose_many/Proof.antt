@@ -31,54 +31,54 @@ module _ (s : tie.Start) where
   -- and then it stands that step from B
   from_base : {y k j : Beam} → y ≡ moved s.args.r s.args.a k → k ≡ j
       → y ≡ moved s.args.r (base s.args.r) j
-  from_base e = moved_from_base s.args.r e s.pre.2
+  from_base e = moved_from_base s.args.r e s.requires.2
 
-moved_by_requires_2 : tie.Need-moved-by-requires-2
+moved_by_requires_2 : tie.Need-moved_by-c-requires
 moved_by_requires_2 c κs =
     let s = c.before.before.before.before in
     movable s
-    (rw c.k-third.ensures
+    (rw c.k_third.ensures
     (cond_both Small (ltb 1 s.args.r.n2) (is_small_lem (beam 1 1) tt) (is_small_lem (beam 2 0) tt)))
 
-returns : tie.Need-returns
+returns : tie.Need-returns-then-r-le6
 returns c =
     let few = c.before.before.before in
     let b = few.before.before in
     let s = b.before in
-    let second = from_base s b.moved_by.ensures refl in
+    let second = from_base s b.moved_by-b.ensures refl in
     let last =
-    from_base s {j = cond (ltb 1 s.args.r.n2) (beam 1 1) (beam 2 0)} c.before.moved-by2.ensures
-    c.before.before.k-third.ensures in
-    said_three _ _ s.requires.2 second s.requires.3 c.said.ensures few.if1.true last
+    from_base s {j = cond (ltb 1 s.args.r.n2) (beam 1 1) (beam 2 0)} c.before.moved_by-c.ensures
+    c.before.before.k_third.ensures in
+    said_three _ _ s.requires.2 second s.requires.3 c.said.ensures few.if-r-le6.true last
 
 -- where the function starts, seen from behind the test of N2
-abbrev start : tie.After-struct-known2 → tie.Start
+abbrev start : tie.After-struct_known-2-1 → tie.Start
 start c = c.before.before.before.before
 
 -- seven and eight layers, where the steps to the last two beams are those that N2 decides on
-four : (c : tie.After-struct-known2) {y : Beams} {third fourth k j : Beam}
+four : (c : tie.After-struct_known-2-1) {y : Beams} {third fourth k j : Beam}
     → let s = start c in
-    let b = c.before.before.before.moved_by.result in
+    let b = c.before.before.before.moved_by-b.result in
     y ≡ said_of s.args.r s.args.s false 4 (s.args.a ∷ b ∷ third ∷ fourth ∷ [])
     → third ≡ moved s.args.r s.args.a k → k ≡ cond (ltb 1 s.args.r.n2) (beam 0 1) (beam 2 0)
     → fourth ≡ moved s.args.r s.args.a j → j ≡ cond (ltb 1 s.args.r.n2) (beam 1 1) (beam 3 0)
     → y ≡ said_all s.args.r s.args.s
 four c e third k fourth j =
     let s = start c in
-    let second = from_base s c.before.before.before.moved_by.ensures refl in
-    said_four _ _ s.pre.2 second s.pre.3 e c.before.if1.false (from_base s third k) (from_base s fourth j)
+    let second = from_base s c.before.before.before.moved_by-b.ensures refl in
+    said_four _ _ s.requires.2 second s.requires.3 e c.before.if-r-le6.false (from_base s third k) (from_base s fourth j)
 
-returns-2 : tie.Need-returns-2
+returns-2 : tie.Need-returns-then-r-le1
 returns-2 c =
     let narrow = c.before.before.before in
-    let e = le-ltb 1 _ narrow.if2.true in
-    four narrow.before c.said2.ensures c.before.before.moved-by3.ensures (rw e) c.before.moved-by4.ensures (rw e)
+    let e = le-ltb 1 _ narrow.if-r-le1.true in
+    four narrow.before c.said-then-r-le1.ensures c.before.before.moved_by-c-then-r-le1.ensures (rw e) c.before.moved_by-d.ensures (rw e)
 
-returns-3 : tie.Need-returns-3
+returns-3 : tie.Need-returns
 returns-3 c =
     let wide = c.before.before.before in
-    let e = lt-ltb 1 _ wide.if2.false in
-    four wide.before c.said3.ensures c.before.before.moved-by5.ensures (rw e) c.before.moved-by6.ensures (rw e)
+    let e = lt-ltb 1 _ wide.if-r-le1.false in
+    four wide.before c.said-2.ensures c.before.before.moved_by-c-2.ensures (rw e) c.before.moved_by-d-2.ensures (rw e)
 
 pub choose_many_spec : {M : Type 1} → statement M
 choose_many_spec =

@@ -33,28 +33,28 @@ one_long n h = ap length (decimal_one n h)
 more_long : (n : ℕ) → 10 ≤ n → n < 2 ^ 64 → length (decimals n) ≡ length (decimals (n / 10)) + 1
 more_long n h few = rw (decimal_more n h (omega arith)) (length-append (decimals (n / 10)) (digit n ∷ []))
 
-pub +decimal-spec : {M : Type 1} → statement M
-+decimal-spec =
+pub +decimal_spec : {M : Type 1} → statement M
++decimal_spec =
     close μ-decimal
     (λ t. decimal-lts.spec (decimal_below t, decimal.Post) (decimal_at t) decimal.Post
     (λ c. omega arith)
     (λ c. omega arith)
-    (λ c. omega (arith, one_long _ c.if1.true))
+    (λ c. omega (arith, one_long _ c.if-n-lt10.true))
     (λ c. omega arith)
     (λ c. simp length-set)
     (λ c.
-    rw (decimal_one _ c.if1.true, mod-eq_of_lt c.if1.true)
-    (adds_stores (_ ∷ []) _ _ refl (omega (arith, one_long _ c.if1.true))))
-    (λ c κs. (omega arith, omega (arith, more_long _ c.before.if1.false (omega arith))))
+    rw (decimal_one _ c.if-n-lt10.true, mod-eq_of_lt c.if-n-lt10.true)
+    (adds_stores (_ ∷ []) _ _ refl (omega (arith, one_long _ c.if-n-lt10.true))))
+    (λ c κs. (omega arith, omega (arith, more_long _ c.before.if-n-lt10.false (omega arith))))
     (λ c. omega arith)
     (λ c. omega arith)
     (λ c.
     let tenth = c.before.before in
-    omega (arith, more_long _ tenth.before.before.if1.false (omega arith), tenth.decimal.ensures.long))
+    omega (arith, more_long _ tenth.before.before.if-n-lt10.false (omega arith), tenth.decimal-k.ensures.long))
     (λ c. omega arith)
-    (λ c. simp length-set (adds_length c.before.before.decimal.ensures))
+    (λ c. simp length-set (adds_length c.before.before.decimal-k.ensures))
     (λ c.
     let tenth = c.before.before in
-    let more = tenth.before.before.if1.false in
+    let more = tenth.before.before.if-n-lt10.false in
     rw (decimal_more _ more (omega arith))
-    (adds_byte tenth.decimal.ensures _ (omega (arith, more_long _ more (omega arith), tenth.decimal.ensures.long)))))
+    (adds_byte tenth.decimal-k.ensures _ (omega (arith, more_long _ more (omega arith), tenth.decimal-k.ensures.long)))))

@@ -6,16 +6,16 @@ use Rattle.text.proofs.Lines.{ok_words, ok_long}
 use Rattle.text.proofs.write.accepted.Statement.{statement}
 use Rattle.text.proofs.write.accepted.Tie as tie
 
-ended_requires : tie.Need-ended-requires
+ended_requires : tie.Need-ended-layers-requires
 ended_requires c κs =
     let ports = c.before.before.before.before in
-    omega (arith, ok_long ports.before.before.before.before.before.args.a, ports.opened.ensures.long)
+    omega (arith, ok_long ports.before.before.before.before.before.args.a, ports.opened-ports.ensures.long)
 
-ended_requires_2 : tie.Need-ended-requires-2
+ended_requires_2 : tie.Need-ended-requires
 ended_requires_2 c κs =
     let layers = c.before.before.before.before in
     let ports = layers.before.before.before.before.before in
-    omega (arith, ok_long ports.before.before.before.before.before.args.a, layers.ended.ensures.long)
+    omega (arith, ok_long ports.before.before.before.before.before.args.a, layers.ended-layers.ensures.long)
 
 returns : tie.Need-returns
 returns c =
@@ -23,13 +23,12 @@ returns c =
     let layers = scale.before.before.before.before.before in
     let ports = layers.before.before.before.before.before in
     rw ok_words
-    (adds_then (adds_then ports.opened.ensures layers.ended.ensures) scale.ended2.ensures)
+    (adds_then (adds_then ports.opened-ports.ensures layers.ended-layers.ensures) scale.ended.ensures)
 
 pub accepted_spec : {M : Type 1} → statement M
 accepted_spec =
     tie.close
     (tie.spec
-    (λ c. refl)
     (λ c. omega arith)
     (λ c κs. omega (arith, ok_long c.before.before.before.before.args.a))
     (λ c. omega arith)

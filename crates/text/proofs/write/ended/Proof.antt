@@ -10,7 +10,7 @@ returns : tie.Need-returns
 returns c =
     let number = c.before.before.before in
     let a = number.before.before.before.args in
-    rw (← c.ending.ensures) (adds_byte number.decimal.ensures _ (omega (arith, ended_long a.n a.left)))
+    rw (← c.ending.ensures) (adds_byte number.decimal-k.ensures _ (omega (arith, ended_long a.n a.left)))
 
 pub ended_spec : {M : Type 1} → statement M
 ended_spec =
