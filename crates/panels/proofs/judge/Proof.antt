@@ -26,7 +26,7 @@ use Rattle.panels.proofs.Drawn.{beams_placed}
 use Rattle.panels.proofs.judge.Statement.{statement}
 use Rattle.panels.proofs.judge.Tie as tie
 
-abbrev start : tie.After-admit-two → tie.Start
+abbrev start : tie.After-admit_two-k → tie.Start
 start c = c.before.before.before.before.before
 
 -- at most two beams are handed over
@@ -47,87 +47,87 @@ few_beams x h =
     }
 
 -- the number that is given is the codebook's refusal
-number : (c : tie.After-admit-two) → let a = (start c).args in
-    c.admit-two.result ≡ refusal panels (asked a.r a.mask.now a.ranks a.offsets.now a.room)
+number : (c : tie.After-admit_two-k) → let a = (start c).args in
+    c.admit_two-k.result ≡ refusal panels (asked a.r a.mask.now a.ranks a.offsets.now a.room)
 number c =
     let a = (start c).args in
-    let x = c.before.needs-of.result in
-    c.admit-two.ensures
-    ∙ ap (λ (y : Needs). admitted y a.mask.now a.ranks a.offsets.now a.room) (few_beams x c.before.needs-of.ensures.2)
-    ∙ admitted_refusal panels a.r a.mask.now a.ranks a.offsets.now a.room indices x c.before.needs-of.ensures.0
+    let x = c.before.needs_of-x.result in
+    c.admit_two-k.ensures
+    ∙ ap (λ (y : Needs). admitted y a.mask.now a.ranks a.offsets.now a.room) (few_beams x c.before.needs_of-x.ensures.2)
+    ∙ admitted_refusal panels a.r a.mask.now a.ranks a.offsets.now a.room indices x c.before.needs_of-x.ensures.0
 
-module _ (c : tie.Else1) where
+module _ (c : tie.Else-k-ne0) where
   -- where it is 0 the report is in range
   in_range : InRange (start c.before).args.r
   in_range =
       let a = (start c.before).args in
       accepted_in_range panels panels_lawful a.r a.mask.now a.ranks a.offsets.now a.room
-      (sym (number c.before) ∙ c.if1.false)
+      (sym (number c.before) ∙ c.if-k-ne0.false)
 
-  own_zero : c.before.before.needs-of.result.refusal ≡ 0
-  own_zero = c.before.before.needs-of.ensures.0.refusal_is ∙ in_range_zero _ in_range
+  own_zero : c.before.before.needs_of-x.result.refusal ≡ 0
+  own_zero = c.before.before.needs_of-x.ensures.0.refusal_is ∙ in_range_zero _ in_range
 
 -- the sizes of one panel
-sizes : (c : tie.After-own-of) → let r = c.before.before.before.args.r in c.own_of_lem.result.sizes ≡ sizes_of r.n1 r.n2
-sizes c = own_sizes _ c.own_of_lem.ensures
+sizes : (c : tie.After-own_of-o) → let r = c.before.before.before.args.r in c.own_of-o.result.sizes ≡ sizes_of r.n1 r.n2
+sizes c = own_sizes _ c.own_of-o.ensures
 
-returns : tie.Need-returns
+returns : tie.Need-returns-then-k-ne0
 returns c =
     let k = c.before.before in
-    c.refuse.ensures ∙ refused_judged _ _ k.admit-two.result _ c.before.if1.true (number k)
+    c.refuse.ensures ∙ refused_judged _ _ k.admit_two-k.result _ c.before.if-k-ne0.true (number k)
 
-co_of_requires : tie.Need-co-of-requires
+co_of_requires : tie.Need-co_of-co-requires
 co_of_requires c κs = in_range c
 
-steps_of_requires : tie.Need-steps-of-requires
+steps_of_requires : tie.Need-steps_of-steps-requires
 steps_of_requires c κs =
-    let e = c.before in
+    let e = c.before.before in
     let rules = e.before.before in
-    (in_range e, sizes rules.before, rules.needs-of.ensures.1 (own_zero e))
+    (in_range e, sizes rules.before, rules.needs_of-x.ensures.1 (own_zero e))
 
-layers_of_requires : tie.Need-layers-of-requires
+layers_of_requires : tie.Need-layers_of-y-requires
 layers_of_requires c κs =
-    let h = in_range c.before.before in
+    let h = in_range c.before.before.before.before in
     (v_some _ h, v_few _ h)
 
-abbrev accepted : tie.After-layers-of → tie.Else1
-accepted c = c.before.before.before
+abbrev accepted : tie.After-layers_of-y → tie.Else-k-ne0
+accepted c = c.before.before.before.before.before
 
-beams_are : (c : tie.After-layers-of) → c.layers-of.result.beams ≡ named (plan (start (accepted c).before).args.r)
+beams_are : (c : tie.After-layers_of-y) → c.layers_of-y.result.beams ≡ named (plan (start (accepted c).before).args.r)
 beams_are c =
     let own = (accepted c).before.before.before in
     let h = in_range (accepted c) in
-    ap (λ (y : Lineup). y.beams) c.layers-of.ensures
-    ∙ beams_placed _ h (own_other _ own.own_of_lem.ensures (own_number _ own.own_of_lem.ensures ∙ in_range_zero _ h))
+    ap (λ (y : Lineup). y.beams) c.layers_of-y.ensures
+    ∙ beams_placed _ h (own_other _ own.own_of-o.ensures (own_number _ own.own_of-o.ensures ∙ in_range_zero _ h))
 
-abbrev layers : tie.After-drawing-of → tie.After-layers-of
+abbrev layers : tie.After-drawing_of-drawing → tie.After-layers_of-y
 layers c = c.before.before.before
 
-drawing_is : (c : tie.After-drawing-of)
-    → c.drawing-of.result ≡ drawing_of (start (accepted (layers c)).before).args.r
+drawing_is : (c : tie.After-drawing_of-drawing)
+    → c.drawing_of-drawing.result ≡ drawing_of (start (accepted (layers c)).before).args.r
 unfolding drawing_of
 drawing_is c =
     let y = layers c in
     let r = (start (accepted y).before).args.r in
-    let steps = y.before in
-    c.drawing-of.ensures
-    ∙ (λ i. drawn_with r (steps.steps_of.ensures i) (steps.before.co-of.ensures i) (y.layers-of.ensures i).codes)
+    let steps = y.before.before in
+    c.drawing_of-drawing.ensures
+    ∙ (λ i. drawn_with r (steps.steps_of-steps.ensures i) (steps.before.before.co_of-co.ensures i) (y.layers_of-y.ensures i).codes)
 
-ports_fit : tie.Need-overflow-mul-ports
+ports_fit : tie.Need-overflow_mul-ports
 ports_fit c =
     let e = accepted (layers c.before.before) in
     omega (arith, ports_few _ (sizes e.before.before.before) (in_range e))
 
-returns-2 : tie.Need-returns-2
+returns-2 : tie.Need-returns
 returns-2 c =
     let drawn = c.before.before.before in
     let y = layers drawn in
     let e = accepted y in
     let rules = e.before.before in
     let ports = ports_are _ (sizes rules.before) (in_range e) in
-    let entries = rules.needs-of.ensures.0.entries_are (own_zero e) in
+    let entries = rules.needs_of-x.ensures.0.entries_are (own_zero e) in
     c.accept.ensures
-    ∙ rw (sym (number e.before) ∙ e.if1.left)
+    ∙ rw (sym (number e.before) ∙ e.if-k-ne0.false)
     (λ i. accepted_as (ports i) (start e.before).args.r.v (entries i) (beams_are y i) (drawing_is drawn i))
 
 pub judge_spec : {M : Type 1} → statement M

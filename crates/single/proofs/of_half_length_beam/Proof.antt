@@ -7,4 +7,4 @@ use Rattle.single.proofs.of_half_length_beam.Tie as tie
 pub of_half_length_beam_spec : {M : Type 1} → statement M
 unfolding places
 of_half_length_beam_spec =
-    tie.close (tie.spec (λ c. rw (eq-eqb _ 3 c.if1.true)) (λ c. rw (ne_eqb _ 3 c.if1.false)))
+    tie.close (tie.spec (λ c. rw (eq-eqb _ 3 c.if-v-eq3.true)) (λ c. rw (ne_eqb _ 3 c.if-v-eq3.false)))

@@ -30,36 +30,36 @@ eight_or_more v h =
 
 -- the row of a rank, by its columns, and by its number; t2 and t3 are the places of l and m
 row : (s : tie.Start) (n : ℕ) → ranked s.args.v ≡ ranked n
-    → whole_lineup n s.args.t2 s.args.t3 ≡ whole_lineup s.args.v s.args.t2 s.args.t3
+    → whole_lineup n s.args.l s.args.m ≡ whole_lineup s.args.v s.args.l s.args.m
 unfolding codes_of
 row s n e = rw e
 
 rank : (s : tie.Start) (n : ℕ) → s.args.v ≡ n
-    → whole_lineup n s.args.t2 s.args.t3 ≡ whole_lineup s.args.v s.args.t2 s.args.t3
+    → whole_lineup n s.args.l s.args.m ≡ whole_lineup s.args.v s.args.l s.args.m
 rank s n e = row s n (ap ranked e)
 
 -- a rank that is not the next to be tried is higher
 past : (n : ℕ) {v : ℕ} → n ≤ v → v ≢ n → suc n ≤ v
 past n h ne = omega arith
 
-abbrev from_two : tie.Else1 → tie.Start
+abbrev from_two : tie.Else-v-le1 → tie.Start
 from_two c = c.before
 
-abbrev from_four : tie.Else3 → tie.Start
+abbrev from_four : tie.Else-v-eq3 → tie.Start
 from_four c = from_two c.before.before
 
-abbrev from_six : tie.Else5 → tie.Start
+abbrev from_six : tie.Else-v-eq5 → tie.Start
 from_six c = from_four c.before.before
 
-returns-8 : tie.Need-returns-8
+returns-8 : tie.Need-returns
 unfolding codes_of ranked places by_rank
 returns-8 c =
     let e5 = c.before.before in
     let e3 = e5.before.before in
     let e1 = e3.before.before in
-    let four = past 3 (past 2 e1.if1.false e3.before.if2.false) e3.if3.false in
-    let seven = past 6 (past 5 (past 4 four e5.before.if4.false) e5.if5.false) c.before.if6.false in
-    row (from_six e5) 8 (eight_or_more _ (past 7 seven c.if7.false))
+    let four = past 3 (past 2 e1.if-v-le1.false e3.before.if-v-eq2.false) e3.if-v-eq3.false in
+    let seven = past 6 (past 5 (past 4 four e5.before.if-v-eq4.false) e5.if-v-eq5.false) c.before.if-v-eq6.false in
+    row (from_six e5) 8 (eight_or_more _ (past 7 seven c.if-v-eq7.false))
 
 pub of_whole_beams_spec : {M : Type 1} → statement M
 unfolding codes_of ranked places by_rank
@@ -68,17 +68,17 @@ of_whole_beams_spec =
     (tie.spec
     (λ c. search rules)
     (λ c. search rules)
-    (λ c. row c.before 1 (one_at_most _ c.if1.true))
+    (λ c. row c.before 1 (one_at_most _ c.if-v-le1.true))
     (λ c. search rules)
     (λ c. search rules)
-    (λ c. rank (from_two c.before) 2 c.if2.true)
-    (λ c. rank (from_two c.before.before) 3 c.if3.true)
-    (λ c. rank (from_four c.before) 4 c.if4.true)
+    (λ c. rank (from_two c.before) 2 c.if-v-eq2.true)
+    (λ c. rank (from_two c.before.before) 3 c.if-v-eq3.true)
+    (λ c. rank (from_four c.before) 4 c.if-v-eq4.true)
     (λ c. search rules)
     (λ c. search rules)
-    (λ c. rank (from_four c.before.before) 5 c.if5.true)
-    (λ c. rank (from_six c.before) 6 c.if6.true)
+    (λ c. rank (from_four c.before.before) 5 c.if-v-eq5.true)
+    (λ c. rank (from_six c.before) 6 c.if-v-eq6.true)
     (λ c. search rules)
     (λ c. search rules)
-    (λ c. rank (from_six c.before.before) 7 c.if7.true)
+    (λ c. rank (from_six c.before.before) 7 c.if-v-eq7.true)
     returns-8)

@@ -9,12 +9,12 @@ returns c =
     let q1 = q4.before.before.before in
     rw (
       q1.quarters.ensures,
-      q4.before.before.quarters2.ensures,
-      q4.before.quarters3.ensures,
-      q4.quarters4.ensures,
-      c.before.before.quarters5.ensures,
-      c.before.quarters6.ensures,
-      c.quarters7.ensures,
+      q4.before.before.quarters-2.ensures,
+      q4.before.quarters-3.ensures,
+      q4.quarters-4.ensures,
+      c.before.before.quarters-5.ensures,
+      c.before.quarters-6.ensures,
+      c.quarters-7.ensures,
     )
 
 pub four_panels_spec : {M : Type 1} → statement M

@@ -12,7 +12,7 @@ module _ (s : tie.Start) where
   x_small = mul-le-mul s.requires.0 (div-le_self turn s.args.s.across)
 
   y_small : s.args.m * (turn / s.args.s.down) ≤ 255 * turn
-  y_small = mul-le-mul s.pre.1 (div-le_self turn s.args.s.down)
+  y_small = mul-le-mul s.requires.1 (div-le_self turn s.args.s.down)
 
 pub step_of_spec : {M : Type 1} → statement M
 step_of_spec =
