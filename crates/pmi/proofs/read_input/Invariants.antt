@@ -1,4 +1,4 @@
--- what has been read is no longer than the line, of which each turn fills some more
+-- `read_input` stays within the line and ends: each turn reads some bytes more.
 use Rattle.std.proofs.Common.{length, ◌-◌, ◌≤◌}
 use Rattle.pmi.proofs.read_input.Given as goal
 

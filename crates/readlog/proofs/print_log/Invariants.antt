@@ -1,4 +1,4 @@
--- what is held lies in the part, and what stands before it is counted; each turn reads some bytes more
+-- `print_log` stays within the part, counts within 64 bits, and ends: each turn reads some bytes more.
 use Rattle.std.proofs.Common.{◌-◌, ◌+◌, ◌^◌, ◌≤◌, length}
 use Rattle.readlog.proofs.print_log.Given as goal
 

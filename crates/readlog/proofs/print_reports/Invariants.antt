@@ -1,4 +1,4 @@
--- the lines lie in their buffer and the place in what is held; each turn takes a report
+-- `print_reports` stays within the part and the lines, and ends: each turn takes a report.
 use Rattle.std.proofs.Common.{◌-◌, ◌≤◌, length}
 use Rattle.readlog.proofs.print_reports.Given as goal
 

@@ -1,4 +1,4 @@
--- a fault's place lies within what is held or at its end, and a line within the buffer
+-- `put_last` stays within its bounds: a fault's place lies within what is held or at its end, and a line within the buffer.
 use Rattle.std.proofs.Common.{◌≡◌, length, take, arith}
 use Rattle.std.proofs.lemmas.List.{length-take-le}
 use Rattle.logs.proofs.Counted.{taken_fault}

@@ -1,4 +1,4 @@
--- A byte is moved to a place that is not behind it, so the bytes behind it stay.
+-- `to_front` keeps what its loop promises: a byte is moved to a place that is not behind it, so those behind it stay as lent.
 use Rattle.std.proofs.Common.{◌≡◌, ◌<◌, ◌≤◌, ◌+◌, ◌-◌, ◌∙◌, ℕ, suc, List, length, take, drop, get_or, set, sym, ap, arith, add-zero}
 use Rattle.std.proofs.Math.Seq.{take-suc, take-suc-set}
 use Rattle.std.proofs.lemmas.List.{drop-drop, drop-set-lt, get_or-drop, length-drop}
@@ -19,8 +19,9 @@ module _ (part lent : List ℕ) (from i : ℕ)
   one_more =
       let next : i + 1 - from ≡ suc (i - from) = omega (arith, begins) in
       let inside : i - from < length (drop from lent) = omega (arith, length-drop from lent, long, begins, within) in
-      rw (next, take-suc-set part (i - from) (get_or part i 0) (omega (arith, within)), take-suc (drop from lent) (i - from) 0 inside)
-      (rw (front, same_byte))
+      let written = take-suc-set part (i - from) (get_or part i 0) (omega (arith, within)) in
+      let there = take-suc (drop from lent) (i - from) 0 inside in
+      rw (next, written, there) (rw (front, same_byte))
 
   rest_stays : drop (i + 1) (set part (i - from) (get_or part i 0)) ≡ drop (i + 1) lent
   rest_stays =

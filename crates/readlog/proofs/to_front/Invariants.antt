@@ -1,4 +1,4 @@
--- the bytes before the place stand at the front, and those behind it are as lent
+-- The loop of `to_front`: the bytes before the place stand at the front, and those behind it are as lent.
 use Rattle.std.proofs.Common.{◌≡◌, ◌-◌, ◌≤◌, take, drop}
 use Rattle.readlog.proofs.to_front.Given as goal
 
