@@ -10,5 +10,5 @@ slice_bounds-text-end c = omega (arith, printed_within c.print-p.ensures, c.prin
 pub slice_bounds-write_all-end : goal.slice_bounds-write_all-end
 slice_bounds-write_all-end c =
     let within : c.print-p.result.length ≤ length c.print-p.new.out =
-        omega (arith, printed_within c.print-p.ensures, c.print-p.auto.out) in
+    omega (arith, printed_within c.print-p.ensures, c.print-p.auto.out) in
     sym (length-take-le _ _ within)
