@@ -14,13 +14,11 @@ decreases-loop-i from n out₀ i₀ out i = n - i
 loop-again : tie.Need-loop-i-preserved invariant-loop-i decreases-loop-i
 loop-again c =
     let t = c.before in
-    let few = t.before.before in
-    copied_next _ _ _ few.before.if-from-n.false few.if-out-n.false 0 t.before.loop-i.invariant t.loop-i-test.true
+    copied_next _ _ _ (omega arith) (omega arith) 0 t.before.loop-i.invariant t.loop-i-test.true
 
 returns-3 : tie.Need-returns invariant-loop-i decreases-loop-i
 returns-3 c =
-    let few = c.before.before in
-    copied_all _ _ _ few.before.if-from-n.false few.if-out-n.false c.before.loop-i.invariant c.loop-i-test.false
+    copied_all _ _ _ (omega arith) (omega arith) c.before.loop-i.invariant c.loop-i-test.false
 
 pub copy_spec : {M : Type 1} → statement M
 copy_spec =
@@ -28,8 +26,8 @@ copy_spec =
     (tie.spec
     invariant-loop-i
     decreases-loop-i
-    (λ c. too_few _ _ _ c.if-from-n.true)
-    (λ c. no_room _ _ _ c.if-out-n.true)
+    (λ c. too_few _ _ _ (omega arith))
+    (λ c. no_room _ _ _ (omega arith))
     (λ c. copied_none _ _ _)
     (λ c. omega arith)
     (λ c. omega arith)

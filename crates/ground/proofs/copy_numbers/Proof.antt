@@ -15,13 +15,11 @@ decreases-loop-k numbers n to₀ k₀ to k = n - k
 loop-again : tie.Need-loop-k-preserved invariant-loop-k decreases-loop-k
 loop-again c =
     let t = c.before in
-    let few = t.before.before in
-    copied_next _ _ _ few.before.if-numbers-n.false few.if-to-n.false 0 t.before.loop-k.invariant t.loop-k-test.true
+    copied_next _ _ _ (omega arith) (omega arith) 0 t.before.loop-k.invariant t.loop-k-test.true
 
 returns-3 : tie.Need-returns invariant-loop-k decreases-loop-k
 returns-3 c =
-    let few = c.before.before in
-    copied_all _ _ _ few.before.if-numbers-n.false few.if-to-n.false c.before.loop-k.invariant c.loop-k-test.false
+    copied_all _ _ _ (omega arith) (omega arith) c.before.loop-k.invariant c.loop-k-test.false
 
 pub copy_numbers_spec : {M : Type 1} → statement M
 copy_numbers_spec =
@@ -29,8 +27,8 @@ copy_numbers_spec =
     (tie.spec
     invariant-loop-k
     decreases-loop-k
-    (λ c. too_few _ _ _ c.if-numbers-n.true)
-    (λ c. no_room _ _ _ c.if-to-n.true)
+    (λ c. too_few _ _ _ (omega arith))
+    (λ c. no_room _ _ _ (omega arith))
     (λ c. copied_none _ _ _)
     (λ c. search rules)
     (λ c. omega arith)

@@ -9,17 +9,17 @@ use Rattle.single.proofs.Drawn.{drawing_draws}
 use Rattle.precoder.proofs.weights.Statement.{statement}
 use Rattle.precoder.proofs.weights.Tie as tie
 
-returns : tie.Need-returns
+returns : tie.Need-returns-then-c-ne0
 returns c =
     judged.refused_answers single single_lawful drawing_of drawing_draws _ _ _ _ _
-    c.before.before.before.judge.ensures _ _ c.before.if1.true
+    c.before.before.before.judge-c.ensures _ _ c.before.if-c-ne0.true
 
-returns-2 : tie.Need-returns-2
+returns-2 : tie.Need-returns
 returns-2 c =
     let written = c.before.before in
     let e = written.before.before in
     judged.weights_answer single single_lawful drawing_of drawing_draws _ _ _ _ _
-    e.before.before.judge.ensures e.if1.false refl written.weights.ensures
+    e.before.before.judge-c.ensures e.if-c-ne0.false refl written.weights.ensures
 
 pub weights_spec : {M : Type 1} → statement M
 weights_spec = tie.close (tie.spec (λ c κs. search rules) returns (λ c κs. search rules) (λ c. search rules) returns-2)

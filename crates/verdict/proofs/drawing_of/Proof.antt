@@ -9,7 +9,7 @@ returns : tie.Need-returns
 unfolding drawing_of
 returns c =
     let (h, e, half, codes) = c.before.before.requires in
-    rw (codes, half_said _ h e half, c.steps_of.ensures, f_said _ h e c.before.quarters.ensures)
+    rw (codes, half_said _ h e half, c.steps_of-steps.ensures, f_said _ h e c.before.quarters-f.ensures)
 
 pub drawing_of_spec : {M : Type 1} → statement M
 drawing_of_spec = tie.close (tie.spec (λ c κs. search rules) (λ c κs. search rules) returns)

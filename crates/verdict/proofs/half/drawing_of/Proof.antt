@@ -13,10 +13,10 @@ returns c =
     rw (
       codes,
       half_said _ h e half,
-      c.before.steps_of.ensures,
-      phases.add.ensures,
-      f_said _ h e phases.before.before.quarters.ensures,
-      phases.before.eighths.ensures,
+      c.before.steps_of-steps.ensures,
+      phases.add-both.ensures,
+      f_said _ h e phases.before.before.quarters-f.ensures,
+      phases.before.eighths-t.ensures,
     )
 
 pub drawing_of_spec : {M : Type 1} → statement M

@@ -6,10 +6,10 @@ use Rattle.single.proofs.Neighbours.{before_first, before_others}
 use Rattle.verdict.proofs.half.row_before.Statement.{statement}
 use Rattle.verdict.proofs.half.row_before.Tie as tie
 
-returns : tie.Need-returns
-returns c = sym (before_first _ _ c.if1.true (omega arith))
+returns : tie.Need-returns-then-l-eq0
+returns c = sym (before_first _ _ c.if-l-eq0.true (omega arith))
 
-returns-2 : tie.Need-returns-2
+returns-2 : tie.Need-returns
 returns-2 c = sym (before_others _ _ (omega arith) (omega arith))
 
 pub row_before_spec : {M : Type 1} → statement M

@@ -22,16 +22,16 @@ module _ (s : tie.Start) where
   r = s.args.r
 
   h : InRange r
-  h = s.pre.0
+  h = s.requires.0
 
   two : r.n1 ≡ 1
-  two = s.pre.2
+  two = s.requires.2
 
   one : r.n2 ≡ 1
   one = one_by_one _ _ h.setting two
 
   ports_two : 2 ≡ s.args.b.ports
-  ports_two = sym (ports_are r h s.pre.1 ∙ ap₂ ports two one)
+  ports_two = sym (ports_are r h s.requires.1 ∙ ap₂ ports two one)
 
   -- what is to be written, with the phase f and the codes
   drawn : {f : ℕ} {codes : List ℕ} → f ≡ phase (s.args.b.n * quarter) → codes ≡ codes_of r.v
@@ -52,8 +52,8 @@ module _ (s : tie.Start) where
         pairs = 1;
         rows = sym two i;
         columns = sym one i;
-        steps = no_steps r h s.pre.1 two i;
-        co = 0 ∷ f_said r h s.pre.1 f i ∷ 0 ∷ 0 ∷ 0 ∷ 0 ∷ 0 ∷ 0 ∷ [];
+        steps = no_steps r h s.requires.1 two i;
+        co = 0 ∷ f_said r h s.requires.1 f i ∷ 0 ∷ 0 ∷ 0 ∷ 0 ∷ 0 ∷ 0 ∷ [];
         codes = codes i;
       })
 
@@ -61,7 +61,7 @@ returns : tie.Need-returns
 returns c =
     let s = c.before.before.before in
     let beams = sym (two_ports_named (r s) (h s) (two s)) in
-    let drawing = drawn s c.before.before.quarters.ensures c.before.codes-of.ensures in
+    let drawing = drawn s c.before.before.quarters-f.ensures c.before.codes_of-codes.ensures in
     c.accept.ensures ∙ λ i. accepted_as (ports_two s i) (r s).v s.args.entries (beams i) (drawing i)
 
 pub accepted_spec : {M : Type 1} → statement M

@@ -16,8 +16,8 @@ unfolding codes_of ranked places by_rank
 codes_of_spec =
     tie.close
     (tie.spec
-    (λ c. row 1 c.if1.true)
+    (λ c. row 1 c.if-v-eq1.true)
     (λ c.
     let (some, few) = c.before.requires in
-    let two : c.before.args.v ≡ 2 = omega (arith, c.if1.false) in
+    let two : c.before.args.v ≡ 2 = omega (arith, c.if-v-eq1.false) in
     row 2 two))
