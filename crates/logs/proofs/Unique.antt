@@ -1,14 +1,14 @@
 -- Each public function of the crate has one outcome on every input: any two that its contract admits are equal, the answer
 -- and, where there is one, the reader that is left.
 use mathlib.Core.Path.{◌≡◌, sym, ap, ◌∙◌}
-use mathlib.Core.Bool.{true, false, true≢false}
+use mathlib.Core.Bool.{true≢false}
 use mathlib.Core.List.{List}
 use Prim.Native.Nat.{ℕ, ◌<◌}
 use native.Mathlib.Omega.{arith}
 use lib.Dec.{ltb}
 use denote.Ref.{Bor}
 use borrow.Author.Tests.{ltb-true, ltb-false}
-use Rattle.ground.specs.Unique.{Unique}
+use Rattle.ground.specs.Unique.{Unique, UniqueLeft}
 use Rattle.ground.proofs.Booleans.{either}
 use Rattle.logs.specs.declared.Answer.{Answer}
 use Rattle.logs.specs.declared.Contents.{Contents}
@@ -20,6 +20,8 @@ use Rattle.logs.proofs.Answers.{one_answer, one_next, kind_report}
 use Rattle.logs.proofs.taken_at.Reads as taken_at
 use Rattle.logs.proofs.reports_in.Reads as reports-in
 use Rattle.logs.proofs.step_at.Reads as step-at
+use Rattle.logs.proofs.Reader.new.Reads as reader-new
+use Rattle.logs.proofs.Reader.next.Reads as reader-next
 
 one_taken : {t u : Taken} → step_of t.answer t.next ≡ step_of u.answer u.next → t ≡ u
 one_taken {t} {u} e = λ i. record {
@@ -63,3 +65,11 @@ next_unique {is = is} {is' = is'} {a = a} {a' = a'} p q =
     let same = p.gives ∙ sym q.gives in
     let place = one_next is.at is'.at a a' same in
     (one_answer is.at is'.at a a' same, λ i. record { log = (p.stays ∙ sym q.stays) i; at = place i })
+
+-- and so of the contracts themselves
+
+pub reader_new_unique : Unique reader-new.Learnt
+reader_new_unique k a r r' e e' = new_unique
+
+pub reader_next_unique : UniqueLeft reader-next.Learnt (λ k e. e.0.now)
+reader_next_unique k a r r' e e' = next_unique

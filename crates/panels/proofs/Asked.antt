@@ -13,7 +13,7 @@ use Rattle.ground.specs.First.{first}
 use Rattle.ground.proofs.Booleans.{either, cond_both}
 use Rattle.turn.specs.declared.Beam.{Beam}
 use Rattle.settings.specs.declared.Sizes.{Sizes}
-use Rattle.settings.specs.Settings.{ports, mask_bytes, sizes_of}
+use Rattle.settings.specs.Settings.{mask_bytes, sizes_of}
 use Rattle.settings.proofs.Steps.{sized}
 use Rattle.masks.specs.declared.Needs.{Needs}
 use Rattle.masks.specs.Admitted.{bits_of}

@@ -9,7 +9,7 @@ use Rattle.ground.proofs.Members.{Listing, listing_one, listing_along, member_al
 use Rattle.ground.proofs.Members.{number_member, member_number, numbers_once}
 use Rattle.ground.proofs.Sums.{length_along, length_times}
 use Rattle.settings.specs.Settings.{settings, ports}
-use Rattle.settings.specs.Ranges.{modes, ranks_of, i11_values, i12_values, i13_values, i2_values}
+use Rattle.settings.specs.Ranges.{modes, ranks_of, i12_values, i13_values, i2_values}
 use Rattle.settings.specs.Counts.{reports_at, counts_by_rank}
 use Rattle.settings.proofs.Members.{setting_member, member_setting, settings_once, mode_member, member_mode, modes_once}
 use Rattle.settings.proofs.Members.{rank_member, member_rank, ranks_once}

@@ -13,7 +13,7 @@ use Rattle.ground.proofs.Booleans.{either}
 use Rattle.ground.specs.First.{first}
 use Rattle.turn.specs.declared.Beam.{Beam}
 use Rattle.turn.specs.Phase.{turn, quarter, phase}
-use Rattle.settings.specs.Settings.{is_setting, ports, across, down, mask_bytes, sizes_of}
+use Rattle.settings.specs.Settings.{is_setting, ports, mask_bytes, sizes_of}
 use Rattle.settings.specs.Ranges.{beam}
 use Rattle.settings.proofs.Known.{known, ports_few}
 use Rattle.report.specs.declared.Report.{Report}

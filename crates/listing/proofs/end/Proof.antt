@@ -1,5 +1,4 @@
 -- `end` meets its contract: its bytes are the word and a newline, copied where there is room.
-use mathlib.Core.Path.{refl}
 use native.Mathlib.Omega.{arith}
 use Rattle.listing.proofs.Listed.{end_bytes}
 use Rattle.listing.proofs.end.Statement.{statement}
@@ -9,4 +8,4 @@ returns : tie.Need-returns
 returns c = rw end_bytes c.before.before.put.ensures
 
 pub end_spec : {M : Type 1} → statement M
-end_spec = tie.close (tie.spec (λ c. refl) (λ c κs. tt) (λ c. omega arith) returns)
+end_spec = tie.close (tie.spec (λ c κs. tt) (λ c. omega arith) returns)

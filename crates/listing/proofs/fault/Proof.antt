@@ -21,61 +21,60 @@ room c =
     omega (arith, fault_long c.args.number c.args.place)
 
 -- the first word stands
-first : (c : tie.After-put) → Begun fault_word c.put.result c.put.new.1.1.0
-first c = begun_front fault_word _ refl (lit≤ tt) c.put.ensures
+first : (c : tie.After-put-k) → Begun fault_word c.put-k.result c.put-k.new.out
+first c = begun_front fault_word _ refl (lit≤ tt) c.put-k.ensures
 
 -- and its number
-second : (c : tie.After-number) → let a = c.before.before.before in
-    Begun (fault_word ++ ended a.before.before.before.before.args.number 2) (a.put.result + c.number.result)
-    (put_mid a.put.result (longest_line - a.put.result) a.put.new.1.1.0 c.number.new.1.1.0)
+second : (c : tie.After-number-k) → let a = c.before.before.before in
+    Begun (fault_word ++ ended a.before.before.before.before.before.args.number 2) (a.put-k.result + c.number-k.result)
+    (put_mid a.put-k.result (longest_line - a.put-k.result) a.put-k.new.out c.number-k.new.out)
 second c =
     let a = c.before.before.before in
-    begun_then (first a) _ (omega (arith, begun_long (first a), room a.before.before.before.before)) c.number.ensures
+    begun_then (first a) _ (omega (arith, begun_long (first a), room a.before.before.before.before.before)) c.number-k.ensures
 
 -- the second word
-third : (c : tie.After-put2) → let b = c.before.before.before.before in
+third : (c : tie.After-put-k-2) → let b = c.before.before.before.before.before in
     let a = b.before.before.before in
-    let k = a.put.result + b.number.result in
-    let line = put_mid a.put.result (longest_line - a.put.result) a.put.new.1.1.0 b.number.new.1.1.0 in
-    Begun (fault_word ++ ended a.before.before.before.before.args.number 2 ++ at_word) (k + c.put2.result)
-    (put_mid k (longest_line - k) line c.put2.new.1.1.0)
+    let k = a.put-k.result + b.number-k.result in
+    let line = put_mid a.put-k.result (longest_line - a.put-k.result) a.put-k.new.out b.number-k.new.out in
+    Begun (fault_word ++ ended a.before.before.before.before.before.args.number 2 ++ at_word) (k + c.put-k-2.result)
+    (put_mid k (longest_line - k) line c.put-k-2.new.out)
 third c =
-    let b = c.before.before.before.before in
+    let b = c.before.before.before.before.before in
     let a = b.before.before.before in
     begun_then (second b) at_word
-    (omega (arith, begun_long (second b), room a.before.before.before.before))
-    c.put2.ensures
+    (omega (arith, begun_long (second b), room a.before.before.before.before.before))
+    c.put-k-2.ensures
 
 -- and the place
-fourth : (c : tie.After-number2) → let p = c.before.before.before in
-    let b = p.before.before.before.before in
+fourth : (c : tie.After-number-k-2) → let p = c.before.before.before in
+    let b = p.before.before.before.before.before in
     let a = b.before.before.before in
-    let s = a.before.before.before.before in
-    let k = a.put.result + b.number.result in
-    let n = k + p.put2.result in
-    let line = put_mid a.put.result (longest_line - a.put.result) a.put.new.1.1.0 b.number.new.1.1.0 in
-    let next = put_mid k (longest_line - k) line p.put2.new.1.1.0 in
-    Begun (fault_text s.args.number s.args.place) (n + c.number2.result)
-    (put_mid n (longest_line - n) next c.number2.new.1.1.0)
+    let s = a.before.before.before.before.before in
+    let k = a.put-k.result + b.number-k.result in
+    let n = k + p.put-k-2.result in
+    let line = put_mid a.put-k.result (longest_line - a.put-k.result) a.put-k.new.out b.number-k.new.out in
+    let next = put_mid k (longest_line - k) line p.put-k-2.new.out in
+    Begun (fault_text s.args.number s.args.place) (n + c.number-k-2.result)
+    (put_mid n (longest_line - n) next c.number-k-2.new.out)
 fourth c =
     let p = c.before.before.before in
-    let b = p.before.before.before.before in
-    let s = b.before.before.before.before.before.before.before in
+    let b = p.before.before.before.before.before in
+    let s = b.before.before.before.before.before.before.before.before in
     rw (fault_words s.args.number s.args.place)
     (begun_then (third p) (ended s.args.place 0)
     (omega (arith, begun_long (second b), begun_more (second b) at_word (third p), room s))
-    c.number2.ensures)
+    c.number-k-2.ensures)
 
 returns : tie.Need-returns
 returns c =
     let copied = c.before.before in
-    begun_put (fourth copied.before.before.before.before) copied.put3.ensures
+    begun_put (fourth copied.before.before.before.before) copied.put.ensures
 
 pub fault_spec : {M : Type 1} → statement M
 fault_spec =
     tie.close
     (tie.spec
-    (λ c. refl)
     (λ c. refl)
     (λ c κs. tt)
     (λ c. begun_within (first c.before))
@@ -83,10 +82,9 @@ fault_spec =
     (λ c. omega (arith, begun_full (first c.before)))
     (λ c κs. tt)
     (λ c. omega (arith, begun_within (second c.before)))
-    (λ c. refl)
-    (λ c. begun_within (second c.before.before))
-    (λ c. begun_within (second c.before.before))
-    (λ c. omega (arith, begun_full (second c.before.before)))
+    (λ c. begun_within (second c.before.before.before))
+    (λ c. begun_within (second c.before.before.before))
+    (λ c. omega (arith, begun_full (second c.before.before.before)))
     (λ c κs. tt)
     (λ c. omega (arith, begun_within (third c.before)))
     (λ c. begun_within (third c.before))

@@ -39,7 +39,7 @@ loop-again c =
     let within : l.i < length os = omega arith in (
       omega arith,
       elim c.if-largest-o.branch [
-          then-largest-o w ↦ ap (leb turn) w.largest-is ∙ next_larger _ _ _ within l.invariant.1 w.if-largest-o.true
+        | then-largest-o w ↦ ap (leb turn) w.largest-is ∙ next_larger _ _ _ within l.invariant.1 w.if-largest-o.true
         | else-largest-o w ↦ ap (leb turn) w.largest-is ∙ next_smaller _ _ _ within l.invariant.1 w.if-largest-o.false
       ],
     )

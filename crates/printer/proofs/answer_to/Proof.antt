@@ -7,11 +7,11 @@ use Rattle.printer.proofs.Texts.{bytes_few, ports_within, called_plainly, outcom
 use Rattle.printer.proofs.answer_to.Statement.{statement}
 use Rattle.printer.proofs.answer_to.Tie as tie
 
-bytes : (c : tie.After-sizes-of) → c.sizes-of.result.bytes ≤ 32
-bytes c = let r = c.before.before.args.r in bytes_few r.n1 r.n2 c.sizes-of.ensures
+bytes : (c : tie.After-sizes_of-sizes) → c.sizes_of-sizes.result.bytes ≤ 32
+bytes c = let r = c.before.before.args.r in bytes_few r.n1 r.n2 c.sizes_of-sizes.ensures
 
-ports : (c : tie.After-sizes-of) → c.sizes-of.result.ports ≤ 32
-ports c = let r = c.before.before.args.r in ports_within r.n1 r.n2 c.sizes-of.ensures
+ports : (c : tie.After-sizes_of-sizes) → c.sizes_of-sizes.result.ports ≤ 32
+ports c = let r = c.before.before.args.r in ports_within r.n1 r.n2 c.sizes_of-sizes.ensures
 
 returns : tie.Need-returns
 returns c =
@@ -19,8 +19,8 @@ returns c =
     let asked = answered.before.before.before.before in
     let s = asked.before.before.before.before.before.before in
     let r = s.before.before.args.r in
-    let call = called_plainly r s.sizes-of.ensures asked.phases2.ensures in
-    outcome_read r call (omega arith) answered.answer.ensures c.before.answer-by.ensures c.given.ensures
+    let call = called_plainly r s.sizes_of-sizes.ensures asked.phases-a.ensures in
+    outcome_read r call (omega arith) answered.answer-n.ensures c.before.answer_by.ensures c.given.ensures
 
 pub answer_to_spec : {M : Type 1} → statement M
 answer_to_spec =

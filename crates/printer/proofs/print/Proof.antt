@@ -7,24 +7,24 @@ use Rattle.printer.proofs.Texts.{outcome_of}
 use Rattle.printer.proofs.print.Statement.{statement}
 use Rattle.printer.proofs.print.Tie as tie
 
-returns : tie.Need-returns
+returns : tie.Need-returns-in-Read
 returns c =
     let a = c.before.before in
-    let r = a.before.before.before in
+    let r = a.before.before in
     record {
-      reading = r.before.before.read.result;
-      reads = r.before.before.read.ensures;
-      outcome = rw r.r.given.1 a.answer-to.ensures;
+      reading = r.read.result;
+      reads = r.read.ensures;
+      outcome = rw r.in-Read.is a.answer_to.ensures;
     }
 
-returns-2 : tie.Need-returns-2
+returns-2 : tie.Need-returns
 returns-2 c =
     let u = c.before.before.before in
     let t = u.before.before in
     record {
-      reading = t.before.before.read.result;
-      reads = t.before.before.read.ensures;
-      outcome = rw t.enum_told.given.1 (outcome_of Unreadable u.unreadable.ensures refl c.given.ensures);
+      reading = t.before.read.result;
+      reads = t.before.read.ensures;
+      outcome = rw t.in_default.is (outcome_of Unreadable u.unreadable-n.ensures refl c.given.ensures);
     }
 
 pub print_spec : {M : Type 1} → statement M

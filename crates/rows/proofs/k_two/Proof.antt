@@ -35,7 +35,7 @@ narrow : (c : tie.Joined-n2-gt1)
 unfolding k_two
 narrow c =
     elim c.if-n2-gt1.branch [
-        then-n2-gt1+else-n2-n1+else-n1-n2 w ↦ rw (lt-ltb 1 _ w.if-n2-gt1.true, le-ltb _ _ w.if-n2-n1.false, ne_eqb _ _ w.if-n1-n2.false)
+      | then-n2-gt1+else-n2-n1+else-n1-n2 w ↦ rw (lt-ltb 1 _ w.if-n2-gt1.true, le-ltb _ _ w.if-n2-n1.false, ne_eqb _ _ w.if-n1-n2.false)
       | else-n2-gt1 w ↦ rw (le-ltb 1 _ w.if-n2-gt1.false)
     ]
 

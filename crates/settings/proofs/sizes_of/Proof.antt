@@ -5,7 +5,7 @@ use mathlib.Core.Bool.{true}
 use Prim.Native.Nat.{ℕ, ◌*◌}
 use native.Mathlib.Omega.{arith}
 use borrow.Author.Rules.{rules}
-use borrow.Author.Tests.{ne_eqb, not-false, not-true}
+use borrow.Author.Tests.{ne_eqb}
 use Rattle.settings.specs.Settings.{is_setting, across, mask_bytes, sizes_of}
 use Rattle.settings.proofs.Known.{known, one_by_one}
 use Rattle.settings.proofs.sizes_of.Statement.{statement}

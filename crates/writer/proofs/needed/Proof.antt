@@ -3,7 +3,7 @@ use mathlib.Core.Path.{◌≡◌}
 use mathlib.Core.Bool.{true, false}
 use Prim.Native.Nat.{◌*◌}
 use mir.Facts.{Fits-below}
-use borrow.Author.Tests.{not-true, not-false, le-leb, lt-leb}
+use borrow.Author.Tests.{le-leb, lt-leb}
 use Rattle.writer.proofs.Numbers.{product_fits, Products, products}
 use Rattle.writer.proofs.Drawn.{five, five_sizes}
 use Rattle.writer.proofs.needed.Statement.{statement}

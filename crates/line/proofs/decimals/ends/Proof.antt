@@ -13,19 +13,19 @@ use Rattle.line.proofs.Leading.{ended_next}
 use Rattle.line.proofs.decimals.ends.Statement.{statement}
 use Rattle.line.proofs.decimals.ends.Tie as tie
 
-returns : tie.Need-returns
+returns : tie.Need-returns-then-end-from
 returns c =
     let s = c.before.before in
     let none = lt-leb 1 (length (next (drop s.args.from s.args.line.now))) (omega (arith, s.requires.end)) in
     rw (ended_next _ _, none)
 
-returns-2 : tie.Need-returns-2
+returns-2 : tie.Need-returns-then-n-gt-LARGEST
 returns-2 c =
     let s = c.before.before.before.before in
     let big = lt-leb (value (next (drop s.args.from s.args.line.now))) 65535 (omega (arith, s.requires.value)) in
     rw (ended_next _ _, big, and_nothing _)
 
-returns-3 : tie.Need-returns-3
+returns-3 : tie.Need-returns
 returns-3 c =
     let b = c.before in
     let s = b.before.before.before.before.before in

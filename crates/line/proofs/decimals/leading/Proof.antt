@@ -11,16 +11,16 @@ use Rattle.line.proofs.Leading.{lead_at, digit_at}
 use Rattle.line.proofs.decimals.leading.Statement.{statement}
 use Rattle.line.proofs.decimals.leading.Tie as tie
 
-abbrev invariant-loop : tie.invariant-loop
-invariant-loop line from last n₀ end₀ n end =
+abbrev invariant-loop-value : tie.invariant-loop-value
+invariant-loop-value line from last n₀ end₀ n end =
     (from ≤ end) × (end ≤ last) × (n < 10 ^ (end - from))
     × (value_after n (lead (last - end) (drop end line)) ≡ value (next (drop from line)))
     × (end + length (lead (last - end) (drop end line)) ≡ from + length (next (drop from line)))
 
-abbrev decreases-loop : tie.decreases-loop
-decreases-loop line from last n₀ end₀ n end = last - end
+abbrev decreases-loop-value : tie.decreases-loop-value
+decreases-loop-value line from last n₀ end₀ n end = last - end
 
-loop-holds : tie.Need-loop-init invariant-loop decreases-loop
+loop-holds : tie.Need-loop-value-init invariant-loop-value decreases-loop-value
 loop-holds c =
     let a = c.before.args in (
       omega arith,
@@ -31,27 +31,27 @@ loop-holds c =
     )
 
 -- the byte is a digit, and the number before it has four at most
-known : (c : tie.Then1 invariant-loop decreases-loop)
+known : (c : tie.In-loop-value invariant-loop-value decreases-loop-value)
     → let t = c.before.before in
-    let b = get_or t.before.before.args.line.now t.loop.end 0 in
-    (t.loop.end < t.before.before.args.from + 5) × (nought ≤ b) × (b ≤ nought + 9) × (t.loop.value < 10 ^ 4)
+    let b = get_or t.before.before.args.line.now t.loop-value.end 0 in
+    (t.loop-value.end < t.before.before.args.from + 5) × (nought ≤ b) × (b ≤ nought + 9) × (t.loop-value.value < 10 ^ 4)
 known c =
     let t = c.before.before in
     let a = t.before.before.args in
-    let digit = sym c.before.is_digit.ensures ∙ c.if1.true in
-    let d = digit_at (a.from + 5) t.loop.end (get_or a.line.now t.loop.end 0) digit in
-    let four : t.loop.end - a.from ≤ 4 = omega (arith, d.0) in
+    let digit = sym c.before.is_digit.ensures ∙ c.loop-value-test.true in
+    let d = digit_at (a.from + 5) t.loop-value.end (get_or a.line.now t.loop-value.end 0) digit in
+    let four : t.loop-value.end - a.from ≤ 4 = omega (arith, d.0) in
     let few = pow-le-pow_right {n = 10} (omega arith) four in
     (d.0, d.1, d.2, omega arith)
 
-loop-again : tie.Need-loop-preserved invariant-loop decreases-loop
+loop-again : tie.Need-loop-value-preserved invariant-loop-value decreases-loop-value
 unfolding value_after
 loop-again c =
     let t = c.before.before.before in
     let s = t.before.before in
-    let l = t.loop in
+    let l = t.loop-value in
     let b = c.byte_at in
-    let taken = sym c.before.before.is_digit.ensures ∙ c.before.if1.true in
+    let taken = sym c.before.before.is_digit.ensures ∙ c.before.loop-value-test.true in
     let more = rw taken at (lead_at (s.args.from + 5) l.end s.args.line.now) in
     let place : l.end + 1 - s.args.from ≡ suc (l.end - s.args.from) = omega arith in (
       omega arith,
@@ -61,21 +61,21 @@ loop-again c =
       omega (arith, ap length more),
     )
 
-returns : tie.Need-returns invariant-loop decreases-loop
+returns : tie.Need-returns invariant-loop-value decreases-loop-value
 unfolding value_after
 returns c =
     let t = c.before.before in
     let s = t.before.before in
-    let left = sym c.before.is_digit.ensures ∙ c.if1.false in
-    let none = rw left at (lead_at (s.args.from + 5) t.loop.end s.args.line.now) in
-    (record { value = rw none at t.loop.invariant.3; end = omega (arith, ap length none) }, omega arith)
+    let left = sym c.before.is_digit.ensures ∙ c.loop-value-test.false in
+    let none = rw left at (lead_at (s.args.from + 5) t.loop-value.end s.args.line.now) in
+    (record { value = rw none at t.loop-value.invariant.3; end = omega (arith, ap length none) }, omega arith)
 
 pub leading_spec : {M : Type 1} → statement M
 leading_spec =
     tie.close
     (tie.spec
-    invariant-loop
-    decreases-loop
+    invariant-loop-value
+    decreases-loop-value
     (λ c. omega arith)
     (λ c. omega arith)
     loop-holds

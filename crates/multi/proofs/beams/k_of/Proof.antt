@@ -3,7 +3,7 @@ use mathlib.Core.Path.{◌∙◌}
 use native.Mathlib.Omega.{arith}
 use borrow.Author.Rules.{rules}
 use Rattle.multi.proofs.InRange.{v_some}
-use Rattle.multi.proofs.Rows.{Row, row_right, row_of_two}
+use Rattle.multi.proofs.Rows.{row_right, row_of_two}
 use Rattle.multi.proofs.beams.k_of.Statement.{statement}
 use Rattle.multi.proofs.beams.k_of.Tie as tie
 

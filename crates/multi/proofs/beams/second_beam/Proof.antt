@@ -8,7 +8,7 @@ use Rattle.settings.specs.Ranges.{beam}
 use Rattle.settings.proofs.Known as one
 use Rattle.settings.proofs.Steps.{Sized, sized, step_across, step_down}
 use Rattle.multi.specs.declared.PanelReport.{PanelReport}
-use Rattle.multi.specs.Panels.{B, B', k_of, reached, InRange}
+use Rattle.multi.specs.Panels.{B, B', k_of, reached}
 use Rattle.multi.proofs.InRange.{set}
 use Rattle.multi.proofs.Columns.{base_is}
 use Rattle.multi.proofs.Rows.{Row, row_right, row_of_one}

@@ -1,11 +1,10 @@
 -- `choice::base_of` meets its contract: its four ways out are those of the definition, and the numbers of a report in
 -- range are small.
-use mathlib.Core.Path.{◌≡◌, sym, ap, ◌∙◌}
+use mathlib.Core.Path.{◌≡◌, sym, ◌∙◌}
 use mathlib.Core.Bool.{true, false}
 use Prim.Native.Nat.{◌/◌, ◌<◌}
 use native.Mathlib.Omega.{arith}
 use borrow.Author.Rules.{rules}
-use borrow.Author.Tests.{not-false, not-true}
 use Rattle.settings.proofs.Known.{known}
 use Rattle.settings.proofs.Steps.{Sized, sized}
 use Rattle.report.specs.Beams.{in_mode_two, is_half}
