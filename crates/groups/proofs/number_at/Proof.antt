@@ -70,12 +70,13 @@ fits c =
     let b : ℕ = get_or t.before.before.args.bytes.now l.at 0 in
     rw l.invariant.1 (group_fits l.i l.value b l.invariant.0 (large_not c) l.invariant.2)
 
-goes : (c : tie.Else-b-lt128 invariant-loop-at decreases-loop-at)
-    → let t = c.before.before.before.before.before.before.before in
-    Goes t.loop-at.i t.loop-at.value (get_or t.before.before.args.bytes.now t.loop-at.at 0)
-goes c =
-    let l = c.before.before.before.before.before.before.before.loop-at in
-    goes_on l.i l.value _ l.invariant.0 (large_not c.before) c.if-b-lt128.false l.invariant.2
+goes : (c : tie.Else-is_large invariant-loop-at decreases-loop-at)
+    → let t = c.before.before.before.before.before.before in
+    128 ≤ get_or t.before.before.args.bytes.now t.loop-at.at 0
+    → Goes t.loop-at.i t.loop-at.value (get_or t.before.before.args.bytes.now t.loop-at.at 0)
+goes c more =
+    let l = c.before.before.before.before.before.before.loop-at in
+    goes_on l.i l.value _ l.invariant.0 (large_not c) more l.invariant.2
 
 cast_group : tie.Need-overflow_cast-group invariant-loop-at decreases-loop-at
 cast_group c = omega arith
@@ -89,21 +90,10 @@ add_value c = record { fits = fits c }
 add_at : tie.Need-overflow_add-at invariant-loop-at decreases-loop-at
 add_at c = omega arith
 
-returns-3 : tie.Need-returns-then-b-lt128 invariant-loop-at decreases-loop-at
-returns-3 c =
-    let t = c.before.before.before.before.before.before.before in
-    let l = t.loop-at in
-    let bytes = t.before.before.args.bytes.now in
-    rw l.invariant.1
-    (sym
-    (scan_last bytes l.i l.value l.at (omega arith) (padded_not c.before) (large_not c.before)
-    c.if-b-lt128.true)
-    ∙ l.invariant.3)
-
 mul_weight : tie.Need-overflow_mul-weight invariant-loop-at decreases-loop-at
 mul_weight c =
     let l = c.before.before.before.before.before.before.before.loop-at in
-    record { fits = rw l.invariant.1 (goes c).fits }
+    record { fits = rw l.invariant.1 (goes c.before (omega arith)).fits }
 
 add_i : tie.Need-overflow_add-i invariant-loop-at decreases-loop-at
 add_i c = omega arith
@@ -116,13 +106,13 @@ loop-again c =
     let t = c.before.before.before.before.before.before.before in
     let l = t.loop-at in
     let bytes = t.before.before.args.bytes.now in (
-      omega (arith, (goes c).few),
-      rw l.invariant.1 (goes c).weight,
-      rw l.invariant.1 (goes c).small,
+      omega (arith, (goes c.before (omega arith)).few),
+      rw l.invariant.1 (goes c.before (omega arith)).weight,
+      rw l.invariant.1 (goes c.before (omega arith)).small,
       rw l.invariant.1
           (sym
           (scan_more bytes l.i l.value l.at (omega arith) (padded_not c.before) (large_not c.before)
-          c.if-b-lt128.false)
+          (omega arith))
           ∙ l.invariant.3),
     )
 
@@ -147,7 +137,14 @@ number_at_spec =
     mul_value
     add_value
     add_at
-    returns-3
+    (λ c.
+    let t = c.before.before.before.before.before.before.before in
+    let l = t.loop-at in
+    rw l.invariant.1
+    (sym
+    (scan_last t.before.before.args.bytes.now l.i l.value l.at (omega arith) (padded_not c.before) (large_not c.before)
+    (omega arith))
+    ∙ l.invariant.3))
     mul_weight
     add_i
     loop-less

@@ -3,7 +3,6 @@ use mathlib.Core.Path.{◌≡◌, refl, sym, ◌∙◌}
 use mathlib.Core.Bool.{true}
 use native.Mathlib.Omega.{arith}
 use lib.Dec.{lit≤}
-use borrow.Author.Tests.{not-true, not-false}
 use Rattle.text.specs.Text.{printable}
 use Rattle.text.proofs.Writes.{writes_nothing, writes_composed}
 use Rattle.text.proofs.answer.Statement.{statement}

@@ -23,13 +23,10 @@ loop-holds : tie.Need-loop-i-init invariant-loop-i decreases-loop-i
 unfolding three_digits each
 loop-holds c = (omega arith, refl)
 
-returns : tie.Need-returns-then-phases-i-gt999 invariant-loop-i decreases-loop-i
-returns c = sym (short_not _ _ _ c.before.before.loop-i-test.true c.if-phases-i-gt999.true)
-
 loop-again : tie.Need-loop-i-preserved invariant-loop-i decreases-loop-i
 loop-again c =
     let l = c.before.before.before.loop-i in
-    (omega arith, rw add-one (short_more l.i _ l.invariant.1 c.if-phases-i-gt999.false))
+    (omega arith, rw add-one (short_more l.i _ l.invariant.1 (omega arith)))
 
 returns-2 : tie.Need-returns invariant-loop-i decreases-loop-i
 returns-2 c =
@@ -46,7 +43,7 @@ are_short_spec =
     loop-holds
     (λ c. search rules)
     (λ c. omega arith)
-    returns
+    (λ c. sym (short_not _ _ _ c.before.before.loop-i-test.true (omega arith)))
     (λ c. omega arith)
     (λ c. omega arith)
     loop-again

@@ -1,6 +1,5 @@
 -- `compose` meets its contract: a refused record has the line of its number, and of any other the first line stands and
 -- then a line for each layer.
-use mathlib.Core.Path.{refl}
 use Prim.Native.Nat.{◌≤◌}
 use native.Mathlib.Nat.{mul-le-mul}
 use native.Mathlib.Omega.{arith}

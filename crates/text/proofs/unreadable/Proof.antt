@@ -1,5 +1,4 @@
 -- `unreadable` meets its contract: its bytes are the word and a newline, copied where there is room.
-use mathlib.Core.Path.{refl}
 use native.Mathlib.Omega.{arith}
 use Rattle.text.proofs.Lines.{unreadable_bytes}
 use Rattle.text.proofs.unreadable.Statement.{statement}

@@ -6,18 +6,20 @@ use Rattle.report.proofs.Steps.{row_of_two, row_of_more}
 use Rattle.report.proofs.choice.k_row.Statement.{statement}
 use Rattle.report.proofs.choice.k_row.Tie as tie
 
-returns : tie.Need-returns-then-r-eq2
-returns c =
-    let two = c.before in
-    let s = two.before.before in
-    c.k_two.ensures ∙ row_of_two s.args.r s.requires.1 two.if-r-eq2.true
-
 returns-2 : tie.Need-returns
 returns-2 c =
     let more = c.before in
     let s = more.before.before in
     c.k_three.ensures
-    ∙ row_of_more s.args.r s.requires.1 s.requires.2 (omega (arith, s.requires.3, more.if-r-eq2.false)) s.requires.4
+    ∙ row_of_more s.args.r s.requires.1 s.requires.2 (omega (arith, s.requires.3)) s.requires.4
 
 pub k_row_spec : {M : Type 1} → statement M
-k_row_spec = tie.close (tie.spec (λ c κs. search rules) returns (λ c κs. search rules) returns-2)
+k_row_spec =
+    tie.close
+    (tie.spec
+    (λ c κs. search rules)
+    (λ c.
+    let s = c.before.before.before in
+    c.k_two.ensures ∙ row_of_two s.args.r s.requires.1 (omega arith))
+    (λ c κs. search rules)
+    returns-2)

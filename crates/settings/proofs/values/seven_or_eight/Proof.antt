@@ -5,11 +5,6 @@ use borrow.Author.Tests.{eq-eqb, ne_eqb, lt-ltb, le-ltb}
 use Rattle.settings.proofs.values.seven_or_eight.Statement.{statement}
 use Rattle.settings.proofs.values.seven_or_eight.Tie as tie
 
-returns : tie.Need-returns-then-n1-gt2
-returns c =
-    let d = c.before.before in
-    rw (eq-eqb _ 2 d.if-n2-eq2.true, lt-ltb 2 d.before.args.n1 (omega arith))
-
 returns-2 : tie.Need-returns-then-n2-eq2
 returns-2 c =
     let d = c.before.before in
@@ -25,4 +20,13 @@ returns-4 c =
 
 pub seven_or_eight_spec : {M : Type 1} → statement M
 seven_or_eight_spec =
-    tie.close (tie.spec returns (λ c κs. search rules) returns-2 returns-3 (λ c κs. search rules) returns-4)
+    tie.close
+    (tie.spec
+    (λ c.
+    let d = c.before.before in
+    rw (eq-eqb _ 2 d.if-n2-eq2.true, lt-ltb 2 d.before.args.n1 (omega arith)))
+    (λ c κs. search rules)
+    returns-2
+    returns-3
+    (λ c κs. search rules)
+    returns-4)

@@ -1,5 +1,4 @@
 -- `write::accepted` meets its contract: the word and P stand, and each number is written after what stands.
-use mathlib.Core.Path.{refl}
 use native.Mathlib.Omega.{arith}
 use Rattle.text.proofs.Adds.{adds_then}
 use Rattle.text.proofs.Lines.{ok_words, ok_long}
