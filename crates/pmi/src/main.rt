@@ -4,7 +4,7 @@
 
 ghost use Rattle.std.specs.Prelude.{◌≤◌, length};
 
-use std::io::{Print, Read, Write};
+use std::io::{Read, Write};
 
 // How many bytes were read, and whether a read failed.
 #[derive(Clone, Copy)]
@@ -27,7 +27,7 @@ fn main(rt: HostRuntime) {
     let mut text = [0; printer::LONGEST_TEXT];
     let p = printer::print(&line[..n], &mut text);
     let written = p.length;
-    let whole = rt.stdout().write_all(&text[..written]).is_ok();
+    let whole = rt.write_all(&text[..written]).is_ok();
     say_if(
         &mut errors,
         !whole,
