@@ -6,7 +6,7 @@ usage: tests/claims.py
 
 CLAIMS: every theorem of Demands has its row, in order, and every theorem named is found where it says. A row of the first
 table is `| theorem | demand | ..` and speaks of Demands.antt; a row of the others is `| theorem | file | ..`. Names in the
-text must stand in one of the tables.
+text must stand in one of the tables, unless they are of a definition of specs/ or of a function of src/.
 RULES: a section `### [file](..)` has rows `| definition | rule |`; each definition is found in that file, in its order.
 Header: a row of the first table has the mode, the ranks, the values of i11, i12, i13 and i2, and for which P; a letter
 behind a value leads to where it is another. A row of the second has the ranks, those values and the three of i2 in either
@@ -42,6 +42,14 @@ def definitions(file):
     return re.findall(r"^ *(?:unfoldable |abbrev )?pub (?:record |data )?(\S+)", read(file), re.M)
 
 
+def not_theorems():
+    """The names of definitions and of functions."""
+    for file in ROOT.glob("crates/*/specs/*.antt"):
+        yield from definitions(file.relative_to(ROOT))
+    for file in ROOT.glob("crates/*/src/**/*.rt"):
+        yield from re.findall(r"\bfn (\w+)", file.read_text(encoding="utf8"))
+
+
 def of_claims():
     """The tests of CLAIMS: what is tested, and whether it holds."""
     claims = read("docs/CLAIMS.md")
@@ -50,7 +58,8 @@ def of_claims():
     for name, file in files.items():
         yield f"{name} is a theorem of {file}", name in theorems(file)
     yield "the theorems of Demands, in order", [name for name, _ in rows if files[name] == DEMANDS] == theorems(DEMANDS)
-    for name in sorted(set(re.findall(r"`([a-z]+(?:-[a-z]+)+)`", claims))):
+    others = set(not_theorems()) - files.keys()
+    for name in sorted(set(re.findall(r"`([a-z]+(?:[_-][a-z]+)+)`", claims)) - others):
         yield f"{name} stands in a table", name in files
 
 

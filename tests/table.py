@@ -76,11 +76,11 @@ def in_source():
 def in_definition():
     """The first parts from 0 to a quarter of a turn."""
     text = (ROOT / "crates/weight/specs/Table.antt").read_text(encoding="utf8")
-    return [int(n) for n in re.findall(r"\d+", re.search(r"^firstQuarter =\n((?: .*\n)+)", text, re.M)[1])]
+    return [int(n) for n in re.findall(r"\d+", re.search(r"^first_quarter =\n((?: .*\n)+)", text, re.M)[1])]
 
 
 def printed():
-    """What the compiled program prints: `rt check` holds it to this file."""
+    """What the compiled program prints: `rt ci` holds it to this file."""
     lines = (ROOT / "crates/table/stdout").read_text().splitlines()
     rows = [tuple(map(int, line.split())) for line in lines]
     return [(x, y) if e == k else None for k, (e, x, y) in enumerate(rows)]

@@ -178,8 +178,7 @@ pub extern "C" fn aspenflick_phases_3(
     offsets: &[turn::Part],
     out: &mut [turn::Part],
 ) -> plan::Record
-    ensures { PhasesLeft single r mask.now ranks offsets.now out.old result
-        out.new }
+    ensures { PhasesLeft single r mask.now ranks offsets.now out.old result out.new }
 {
     precoder::phases(r, mask, ranks, offsets, out)
 }
@@ -196,8 +195,7 @@ pub extern "C" fn aspenflick_weights_3(
     offsets: &[turn::Part],
     out: &mut [i16],
 ) -> plan::Record
-    ensures { WeightsLeft single r mask.now ranks offsets.now out.old result
-        out.new }
+    ensures { WeightsLeft single r mask.now ranks offsets.now out.old result out.new }
 {
     precoder::weights(r, mask, ranks, offsets, out)
 }
@@ -213,8 +211,7 @@ pub extern "C" fn aspenflick_panel_phases_3(
     offsets: &[turn::Part],
     out: &mut [turn::Part],
 ) -> plan::Record
-    ensures { PhasesLeft panels r mask.now ranks offsets.now out.old result
-        out.new }
+    ensures { PhasesLeft panels r mask.now ranks offsets.now out.old result out.new }
 {
     panels::phases(r, mask, ranks, offsets, out)
 }
@@ -229,8 +226,7 @@ pub extern "C" fn aspenflick_panel_weights_3(
     offsets: &[turn::Part],
     out: &mut [i16],
 ) -> plan::Record
-    ensures { WeightsLeft panels r mask.now ranks offsets.now out.old result
-        out.new }
+    ensures { WeightsLeft panels r mask.now ranks offsets.now out.old result out.new }
 {
     panels::weights(r, mask, ranks, offsets, out)
 }

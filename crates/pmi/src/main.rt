@@ -4,7 +4,7 @@
 
 ghost use Rattle.std.specs.Prelude.{◌≤◌, length};
 
-use libc::{STDERR_FILENO, STDIN_FILENO, STDOUT_FILENO};
+use std::io::{Read, Write};
 
 // How many bytes were read, and whether a read failed.
 #[derive(Clone, Copy)]
@@ -13,32 +13,41 @@ struct Input {
     failed: bool,
 }
 
-fn main() {
+fn main(rt: HostRuntime) {
+    let mut errors = rt.stderr();
     // one byte more than the longest line, so that a longer one is seen to be longer
     let mut line = [0; line::LONGEST_LINE + 1];
-    let input = read_input(&mut line);
-    say_if(input.failed, b"pmi: the input could not be read\n");
+    let input = read_input(&mut rt.stdin(), &mut line);
+    say_if(
+        &mut errors,
+        input.failed,
+        b"pmi: the input could not be read\n",
+    );
     let n = input.length;
     let mut text = [0; printer::LONGEST_TEXT];
     let p = printer::print(&line[..n], &mut text);
     let written = p.length;
-    let whole = io::write_all(STDOUT_FILENO, &text[..written]);
-    say_if(!whole, b"pmi: the answer could not be written\n");
+    let whole = rt.write_all(&text[..written]).is_ok();
+    say_if(
+        &mut errors,
+        !whole,
+        b"pmi: the answer could not be written\n",
+    );
 }
 
-fn say_if(fault: bool, message: &[u8]) {
+fn say_if<W: Write>(errors: &mut W, fault: bool, message: &[u8]) {
     if fault {
-        io::write_all(STDERR_FILENO, message);
+        let _ = errors.write_all(message);
     }
 }
 
 // Reads until the line is full or the input ends. Where a read fails the length is 0, since what was to come is not known.
-fn read_input(line: &mut [u8]) -> Input
+fn read_input<R: Read>(input: &mut R, line: &mut [u8]) -> Input
     ensures { result.length ≤ length line.new }
 {
     let mut n = 0;
     while n < line.len() {
-        let more = read_once(&mut line[n..]);
+        let more = read_once(input, &mut line[n..]);
         if more.failed {
             return Input {
                 length: 0,
@@ -56,12 +65,17 @@ fn read_input(line: &mut [u8]) -> Input
     }
 }
 
-fn read_once(rest: &mut [u8]) -> Input
+fn read_once<R: Read>(input: &mut R, rest: &mut [u8]) -> Input
     ensures { result.length ≤ length rest.new }
 {
-    let got = libc::read(STDIN_FILENO, rest);
-    Input {
-        length: io::count(got, rest),
-        failed: got < 0,
+    match input.read(rest) {
+        Ok(n) => Input {
+            length: n,
+            failed: false,
+        },
+        Err(_) => Input {
+            length: 0,
+            failed: true,
+        },
     }
 }

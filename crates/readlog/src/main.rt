@@ -4,12 +4,15 @@
 
 ghost use Rattle.std.specs.Prelude.{◌≡◌, ◌+◌, ◌-◌, ◌^◌, ◌<◌, ◌≤◌, length, take, drop};
 
-use libc::{STDERR_FILENO, STDIN_FILENO, STDOUT_FILENO};
 use logs::Answer;
+use std::io::{Read, Write};
 
 // No report is longer. Where so many bytes are left, they tell what stands at a place, whatever follows them
-// (crates/log/proofs/Parts.antt).
+// (crates/logs/proofs/Parts.antt).
 const LONGEST_REPORT: usize = 40;
+
+// How many bytes of the log are held at once, and of its lines.
+const BUFFER: usize = 65536;
 
 // How many bytes are counted. A place has 64 bits, and a loop that is proved has to end.
 const MOST_BYTES: u64 = 1 << 63;
@@ -35,57 +38,77 @@ struct Printed {
     whole: bool,
 }
 
-fn main() {
-    let mut part = io::large_buffer();
-    let mut lines = io::large_buffer();
-    print_log(&mut part, &mut lines);
+fn main(rt: HostRuntime) {
+    let mut part = [0; BUFFER];
+    let mut lines = [0; BUFFER];
+    print_log(
+        &mut rt.stdin(),
+        &mut rt.stdout(),
+        &mut rt.stderr(),
+        &mut part,
+        &mut lines,
+    );
 }
 
 // Prints the log, a part after the other. Of a part the reports are printed as long as so many bytes are left as one may
 // have; what is left is moved to the front, and more is read behind it.
-fn print_log(part: &mut [u8], lines: &mut [u8])
+fn print_log<R: Read, W: Write, E: Write>(
+    input: &mut R,
+    output: &mut W,
+    errors: &mut E,
+    part: &mut [u8],
+    lines: &mut [u8],
+)
     requires { length part.old ≤ 65536 }
 {
     let mut held = 0;
     // how many bytes of the log stand before those that are held
     let mut before: u64 = 0;
     while before < MOST_BYTES {
-        let more = read_once(&mut part[held..]);
+        let more = read_once(input, &mut part[held..]);
         if more.failed {
-            say(b"readlog: the log could not be read\n");
+            say(errors, b"readlog: the log could not be read\n");
             return;
         }
         // where nothing more comes, any byte that is left begins a report
         let least = if more.length == 0 { 1 } else { LONGEST_REPORT };
         held += more.length;
-        let printed = print_reports(part, held, least, lines);
+        let printed = print_reports(output, part, held, least, lines);
         if !printed.whole {
-            say(b"readlog: the reports could not be written\n");
+            say(errors, b"readlog: the reports could not be written\n");
             return;
         }
         let next = printed.next;
         if more.length == 0 || least <= held - next {
-            print_last(part, held, next, before);
+            print_last(output, errors, part, held, next, before);
             return;
         }
         to_front(part, next, held);
         held -= next;
         before += next as u64;
     }
-    say(b"readlog: the log is longer than 9223372036854775808 bytes\n");
+    say(
+        errors,
+        b"readlog: the log is longer than 9223372036854775808 bytes\n",
+    );
 }
 
-fn say(message: &[u8]) {
-    io::write_all(STDERR_FILENO, message);
+fn say<E: Write>(errors: &mut E, message: &[u8]) {
+    let _ = errors.write_all(message);
 }
 
-fn read_once(rest: &mut [u8]) -> Input
+fn read_once<R: Read>(input: &mut R, rest: &mut [u8]) -> Input
     ensures { result.length ≤ length rest.new }
 {
-    let got = libc::read(STDIN_FILENO, rest);
-    Input {
-        length: io::count(got, rest),
-        failed: got < 0,
+    match input.read(rest) {
+        Ok(n) => Input {
+            length: n,
+            failed: false,
+        },
+        Err(_) => Input {
+            length: 0,
+            failed: true,
+        },
     }
 }
 
@@ -123,15 +146,21 @@ fn put_line(part: &[u8], held: usize, at: usize, out: &mut [u8]) -> Line
 }
 
 // Writes the first n bytes, and says whether it could.
-fn put_out(lines: &[u8], n: usize) -> bool
+fn put_out<W: Write>(output: &mut W, lines: &[u8], n: usize) -> bool
     requires { n ≤ length lines.now }
 {
-    io::write_all(STDOUT_FILENO, &lines[..n])
+    output.write_all(&lines[..n]).is_ok()
 }
 
 // Prints the reports of what is held, up to the first place where fewer bytes are left than `least` or where no report
 // stands.
-fn print_reports(part: &[u8], held: usize, least: usize, lines: &mut [u8]) -> Printed
+fn print_reports<W: Write>(
+    output: &mut W,
+    part: &[u8],
+    held: usize,
+    least: usize,
+    lines: &mut [u8],
+) -> Printed
     requires { held ≤ length part.now }
     ensures { result.next ≤ held }
 {
@@ -142,13 +171,13 @@ fn print_reports(part: &[u8], held: usize, least: usize, lines: &mut [u8]) -> Pr
         if line.next == at {
             return Printed {
                 next: at,
-                whole: put_out(lines, n),
+                whole: put_out(output, lines, n),
             };
         }
         n += line.length;
         at = line.next;
         if lines.len() - n < listing::LONGEST_LINE {
-            if !put_out(lines, n) {
+            if !put_out(output, lines, n) {
                 return Printed {
                     next: at,
                     whole: false,
@@ -159,7 +188,7 @@ fn print_reports(part: &[u8], held: usize, least: usize, lines: &mut [u8]) -> Pr
     }
     Printed {
         next: at,
-        whole: put_out(lines, n),
+        whole: put_out(output, lines, n),
     }
 }
 
@@ -177,12 +206,19 @@ fn put_last(part: &[u8], held: usize, at: usize, before: u64, out: &mut [u8]) ->
     }
 }
 
-fn print_last(part: &[u8], held: usize, at: usize, before: u64)
+fn print_last<W: Write, E: Write>(
+    output: &mut W,
+    errors: &mut E,
+    part: &[u8],
+    held: usize,
+    at: usize,
+    before: u64,
+)
     requires { (held ≤ length part.now) × (before + held < 2 ^ 64) }
 {
     let mut line = [0; listing::LONGEST_LINE];
     let n = put_last(part, held, at, before, &mut line);
-    if !put_out(&line, n) {
-        say(b"readlog: the last line could not be written\n");
+    if !put_out(output, &line, n) {
+        say(errors, b"readlog: the last line could not be written\n");
     }
 }

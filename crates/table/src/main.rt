@@ -3,7 +3,7 @@
 
 ghost use Rattle.std.specs.Prelude.{◌≡◌, nat_abs};
 
-use libc::STDOUT_FILENO;
+use std::fmt::Display;
 use turn::Part;
 
 // A number without its sign.
@@ -17,25 +17,30 @@ fn size(n: i16) -> u64
     wide as u64
 }
 
-fn print_signed(n: i16) {
+// Says nothing where it could not be written.
+fn put(rt: &impl Print, value: impl Display + Drop) {
+    let _ = rt.print(value);
+}
+
+fn print_signed(rt: &impl Print, n: i16) {
     if n < 0 {
-        io::write_all(STDOUT_FILENO, b"-");
+        put(rt, "-");
     }
-    io::print_decimal(STDOUT_FILENO, size(n));
+    put(rt, size(n));
 }
 
-fn print_line(e: Part) {
+fn print_line(rt: &impl Print, e: Part) {
     let w = lookup::weight_at(e);
-    io::print_decimal(STDOUT_FILENO, e as u64);
-    io::write_all(STDOUT_FILENO, b" ");
-    print_signed(w.x);
-    io::write_all(STDOUT_FILENO, b" ");
-    print_signed(w.y);
-    io::write_all(STDOUT_FILENO, b"\n");
+    put(rt, e);
+    put(rt, " ");
+    print_signed(rt, w.x);
+    put(rt, " ");
+    print_signed(rt, w.y);
+    put(rt, "\n");
 }
 
-fn main() {
+fn main(rt: HostRuntime) {
     for e in 0..turn::TURN {
-        print_line(e);
+        print_line(&rt, e);
     }
 }

@@ -1,0 +1,2 @@
+-- Theorems about what C calls.
+pub mod Unique
