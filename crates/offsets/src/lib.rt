@@ -40,16 +40,24 @@ fn at_most_32(n: usize) -> usize
     32
 }
 
-// The offsets of 32 ports in the first places, reduced; 0 where there is none, and in the other places.
-pub fn reduced(offsets: &[Part]) -> [Part; PLACES]
-    ensures { result ≡ reduced offsets.now }
+// Takes the offsets of 32 ports into the first places, reduced, and 0 where there is none and into the other places.
+pub fn reduce(offsets: &[Part], xs: &mut [Part; PLACES])
+    ensures { xs.new ≡ reduced offsets.now }
 {
     let n = at_most_32(offsets.len());
-    let mut xs = [0; PLACES];
+    *xs = [0; PLACES];
     let mut i = 0;
     while i < n {
         xs[i] = offsets[i] % TURN;
         i += 1;
     }
+}
+
+// The same, in places of its own.
+pub fn reduced(offsets: &[Part]) -> [Part; PLACES]
+    ensures { result ≡ reduced offsets.now }
+{
+    let mut xs = [0; PLACES];
+    reduce(offsets, &mut xs);
     xs
 }

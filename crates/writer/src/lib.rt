@@ -68,8 +68,9 @@ pub fn matrix(s: Drawing, offsets: &[Part], out: &mut [Part]) -> usize
     let end = need - 16;
     let mut kept = [0; fill::PLACES];
     ground::copy_numbers(&out[end..], fill::PLACES, &mut kept);
-    let xs = offsets::reduced(offsets);
+    let mut xs = [0; offsets::PLACES];
+    offsets::reduce(offsets, &mut xs);
     layers(s, &xs, out);
-    fill::put(out, end, kept);
+    fill::put(out, end, &kept);
     end
 }

@@ -56,30 +56,30 @@ returns c =
 
 -- where the layers were drawn, and where the sizes had been tested
 abbrev tested : tie.After-layers → tie.Else-need-eq0
-tested l = l.before.before.before.before.before.before.before.before
+tested l = l.before.before.before.before.before.before.before.before.before
 
 layers_requires : tie.Need-layers-requires
 layers_requires c κs =
-    let read = c.before.before.reduced-xs.ensures in (
-      sizes c.before.before.before.before.before.before.before,
+    let read = c.before.before.reduce.ensures in (
+      sizes c.before.before.before.before.before.before.before.before,
       subst Low (sym read) (reduced_low _),
     )
 
 put_requires : tie.Need-put-requires
 put_requires c κs =
-    let l = c.before.before.before in
+    let l = c.before.before.before.before in
     (enough (tested l)).past _ l.layers.auto.out
 
 returns-2 : tie.Need-returns
 returns-2 c =
-    let l = c.before.before.before.before.before.before in
-    let copy = l.before.before.before.before.before.copy_numbers in
+    let l = c.before.before.before.before.before.before.before in
+    let copy = l.before.before.before.before.before.before.copy_numbers in
     let e = tested l in
     let a = e.before.before.before.before.args in
     let os = a.offsets.now in
     let kept = copied_last a.out.now (e.before.needed-need.result - 16) copy.ensures ((enough e).past _ refl) in
     let long = length_layers os a.s _ (passed e).0 in
-    let same = ap (λ (xs : List ℕ). drawn xs a.s a.s.v) l.before.before.before.reduced-xs.ensures
+    let same = ap (λ (xs : List ℕ). drawn xs a.s a.s.v) l.before.before.before.reduce.ensures
     ∙ drawn_reduced os a.s a.s.v (sizes e).ports in
     record {
       many = (enough e).end ∙ sym long;
@@ -104,5 +104,5 @@ matrix_spec =
     (λ c κs. tt)
     layers_requires
     put_requires
-    (λ c. c.before.before.put.auto.out ∙ c.before.before.before.before.before.before.layers.auto.out)
+    (λ c. c.before.before.put.auto.out ∙ c.before.before.before.before.before.before.before.layers.auto.out)
     returns-2)
