@@ -1,4 +1,4 @@
--- The lines of a listing of a log: a line of numbers (`lineOf`) for each report, and what stands last.
+-- The lines of a listing of a log: a line of numbers (`line_of`) for each report, and what stands last.
 use Rattle.std.specs.Prelude.{◌≡◌, Bool, true, List, [], ◌∷◌, ℕ, ◌*◌}
 use Rattle.text.specs.Words.{joined, decimal, headed}
 
