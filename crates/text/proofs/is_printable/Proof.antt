@@ -1,10 +1,14 @@
 -- `is_printable` meets its contract: its tests are those of the definition, in their order.
-use Prim.Native.Nat.{◌*◌, ◌≤◌}
+use mathlib.Core.Path.{◌≡◌}
+use mathlib.Core.Bool.{false}
+use mathlib.Core.List.{List}
+use Prim.Native.Nat.{ℕ, ◌*◌, ◌<◌, ◌≤◌}
 use native.Mathlib.Nat.{mul-le-mul}
 use native.Mathlib.Omega.{arith}
 use borrow.Author.Rules.{rules}
 use borrow.Author.Tests.{le-leb, lt-leb}
 use Rattle.ground.proofs.Booleans.{and_nothing}
+use Rattle.plan.specs.declared.Record.{Record}
 use Rattle.text.specs.Text.{printable}
 use Rattle.text.proofs.is_printable.Statement.{statement}
 use Rattle.text.proofs.is_printable.Tie as tie
@@ -13,9 +17,9 @@ returns : tie.Need-returns-then-a-gt999
 unfolding printable
 returns c = rw (lt-leb _ 999 c.if-a-gt999.true)
 
-returns-2 : tie.Need-returns-then-a-gt32
+ports_many : (a : Record) (phases : List ℕ) → 32 < a.ports → false ≡ printable a phases
 unfolding printable
-returns-2 c = rw (lt-leb _ 32 c.if-a-gt32.true, and_nothing _)
+ports_many a phases h = rw (lt-leb a.ports 32 h, and_nothing _)
 
 returns-3 : tie.Need-returns-then-a-gt8
 unfolding printable
@@ -28,7 +32,11 @@ returns-4 c = rw (lt-leb _ 999 c.if-a-gt999-2.true, and_nothing _)
 small : (c : tie.After-struct_known-5-1) → let third = c.before.before.before in
     let a = third.before.before.before.before.before.before.before.args.a in
     a.layers * a.ports ≤ 8 * 32
-small c = let third = c.before.before.before in mul-le-mul third.if-a-gt8.false third.before.before.if-a-gt32.false
+small c =
+    let third = c.before.before.before in
+    let a = third.before.before.before.before.before.before.before.args.a in
+    let ports : a.ports ≤ 32 = omega arith in
+    mul-le-mul third.if-a-gt8.false ports
 
 returns-5 : tie.Need-returns-then-phases-n
 unfolding printable
@@ -40,9 +48,10 @@ returns-6 c =
     let fourth = c.before.before.before in
     let third = fourth.before.before in
     let second = third.before.before in
+    let a = second.before.before.before.before.before.args.a in
     rw (
       le-leb _ 999 second.before.before.if-a-gt999.false,
-      le-leb _ 32 second.if-a-gt32.false,
+      le-leb a.ports 32 (omega arith),
       le-leb _ 8 third.if-a-gt8.false,
       le-leb _ 999 fourth.if-a-gt999-2.false,
       le-leb _ _ c.before.if-phases-n.false,
@@ -54,7 +63,7 @@ is_printable_spec =
     tie.close
     (tie.spec
     returns
-    returns-2
+    (λ c. ports_many _ _ (omega arith))
     returns-3
     returns-4
     (λ c. omega (arith, small c))
