@@ -53,9 +53,9 @@ fn draw(
 }
 
 // Puts sixteen entries from place `at` on.
-pub fn put(out: &mut [Part], at: usize, block: &[Part; PLACES])
+pub fn put(out: &mut [Part], at: usize, block: [Part; PLACES])
     requires { at + 16 ≤ length out.old }
-    ensures { PutAt out.old at block.now out.new }
+    ensures { PutAt out.old at block out.new }
 {
     let mut i = 0;
     while i < PLACES {
@@ -107,7 +107,7 @@ pub fn column(
         let p = to - at;
         let second = draw(out, to, offsets, p, h, w, x, y, c, d);
         to += h;
-        put(out, to, &second);
+        put(out, to, second);
         to += h;
     }
     to

@@ -71,6 +71,6 @@ pub fn matrix(s: Drawing, offsets: &[Part], out: &mut [Part]) -> usize
     let mut xs = [0; offsets::PLACES];
     offsets::reduce(offsets, &mut xs);
     layers(s, &xs, out);
-    fill::put(out, end, &kept);
+    fill::put(out, end, kept);
     end
 }

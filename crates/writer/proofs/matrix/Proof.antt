@@ -67,12 +67,12 @@ layers_requires c κs =
 
 put_requires : tie.Need-put-requires
 put_requires c κs =
-    let l = c.before.before.before.before in
+    let l = c.before.before.before in
     (enough (tested l)).past _ l.layers.auto.out
 
 returns-2 : tie.Need-returns
 returns-2 c =
-    let l = c.before.before.before.before.before.before.before in
+    let l = c.before.before.before.before.before.before in
     let copy = l.before.before.before.before.before.before.copy_numbers in
     let e = tested l in
     let a = e.before.before.before.before.args in
@@ -104,5 +104,5 @@ matrix_spec =
     (λ c κs. tt)
     layers_requires
     put_requires
-    (λ c. c.before.before.put.auto.out ∙ c.before.before.before.before.before.before.before.layers.auto.out)
+    (λ c. c.before.before.put.auto.out ∙ c.before.before.before.before.before.before.layers.auto.out)
     returns-2)

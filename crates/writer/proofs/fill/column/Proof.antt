@@ -42,12 +42,12 @@ loop-holds c = (zero-le, refl, subst (λ (xs : List ℕ). Laid c.before.args.out
 
 -- where a turn began that has come to its end
 abbrev turn_of : tie.After-slice_known-in-loop-q-2-1 invariant-loop-q decreases-loop-q → tie.In-loop-q invariant-loop-q decreases-loop-q
-turn_of c = c.before.before.before.before.before.before.before.before.before.before.before
+turn_of c = c.before.before.before.before.before.before.before.before.before.before
 
 loop-again : tie.Need-loop-q-preserved invariant-loop-q decreases-loop-q
 loop-again c =
     let put = c.before.before.put in
-    let d = c.before.before.before.before.before.before.before in
+    let d = c.before.before.before.before.before.before in
     let t = turn_of c in
     let s = t.before.before.before in
     let a = s.args in
@@ -75,7 +75,7 @@ draw_requires c κs =
 
 put_requires : tie.Need-put-requires invariant-loop-q decreases-loop-q
 put_requires c κs =
-    let d = c.before.before.before.before in
+    let d = c.before.before.before in
     (room d.before.before.before.before).second _ d.draw-second.auto.out
 
 returns : tie.Need-returns invariant-loop-q decreases-loop-q

@@ -27,7 +27,7 @@ loop-again c =
     let l = c.before.loop-i in
     let a = c.before.before.args in (
       next_within 16 _ c.loop-i-test.true,
-      stored_at a.out.now a.block.now a.at 16 l.i 0 l.invariant.1 refl (omega arith) c.loop-i-test.true
+      stored_at a.out.now a.block a.at 16 l.i 0 l.invariant.1 refl (omega arith) c.loop-i-test.true
           c.before.before.requires,
       simp length-set l.invariant.2,
     )
@@ -35,7 +35,7 @@ loop-again c =
 returns : tie.Need-returns invariant-loop-i decreases-loop-i
 returns c =
     let a = c.before.before.args in
-    stored_all_at a.out.now a.block.now a.at 16 c.before.loop-i.i c.before.loop-i.invariant.1 (omega arith)
+    stored_all_at a.out.now a.block a.at 16 c.before.loop-i.i c.before.loop-i.invariant.1 (omega arith)
     (le_antisymm c.before.loop-i.invariant.0 c.loop-i-test.false)
 
 pub put_spec : {M : Type 1} → statement M
