@@ -58,6 +58,7 @@
 // it is added to the port's phase in every layer, modulo a turn. Zeros leave the precoder as the standard prints it.
 #![tactic(auto)]
 
+// C calls no generic function: each of the four that write entries is `precoder::entries` of one codebook and one kind of number.
 ghost use Rattle.std.specs.Prelude.{◌≡◌};
 ghost use Rattle.ground.specs.Cases.{◌⇒◌∣◌};
 ghost use Rattle.settings.specs.Settings.{is_setting, mask_bytes};
@@ -180,7 +181,12 @@ pub extern "C" fn aspenflick_phases_3(
 ) -> plan::Record
     ensures { PhasesLeft single r mask.now ranks offsets.now out.old result out.new }
 {
-    precoder::phases(r, mask, ranks, offsets, out)
+    let site = plan::Site {
+        mask,
+        ranks,
+        offsets,
+    };
+    precoder::entries(r, site, out)
 }
 
 // Writes the weights of a report's precoder: for each entry that `aspenflick_phases` writes, x and then y, the whole
@@ -197,7 +203,12 @@ pub extern "C" fn aspenflick_weights_3(
 ) -> plan::Record
     ensures { WeightsLeft single r mask.now ranks offsets.now out.old result out.new }
 {
-    precoder::weights(r, mask, ranks, offsets, out)
+    let site = plan::Site {
+        mask,
+        ranks,
+        offsets,
+    };
+    precoder::entries(r, site, out)
 }
 
 // Writes the phases of a multi-panel report's precoder as `aspenflick_phases` does: layer after layer, each of P entries,
@@ -213,7 +224,12 @@ pub extern "C" fn aspenflick_panel_phases_3(
 ) -> plan::Record
     ensures { PhasesLeft panels r mask.now ranks offsets.now out.old result out.new }
 {
-    panels::phases(r, mask, ranks, offsets, out)
+    let site = plan::Site {
+        mask,
+        ranks,
+        offsets,
+    };
+    precoder::entries(r, site, out)
 }
 
 // Writes the weights of a multi-panel report's precoder: for each entry that `aspenflick_panel_phases` writes, x and then y,
@@ -228,7 +244,12 @@ pub extern "C" fn aspenflick_panel_weights_3(
 ) -> plan::Record
     ensures { WeightsLeft panels r mask.now ranks offsets.now out.old result out.new }
 {
-    panels::weights(r, mask, ranks, offsets, out)
+    let site = plan::Site {
+        mask,
+        ranks,
+        offsets,
+    };
+    precoder::entries(r, site, out)
 }
 
 // Reads one step of a log of reports: what stands at the place `from`, which is the front, 0, or the `next` of the step

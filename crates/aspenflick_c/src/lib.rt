@@ -1,4 +1,5 @@
-// What C calls of crate aspenflick: each function answers as the one of its name there, and include/aspenflick.h says what.
+// What C calls of crate aspenflick: each function answers as the one of its name there, and include/aspenflick.h says what. A
+// crate is a library for C or one for other crates, and not both: so each stands twice.
 #![tactic(auto)]
 
 ghost use Rattle.std.specs.Prelude.{◌≡◌};

@@ -1,10 +1,6 @@
 -- The bytes of a report, number by number.
-use mathlib.Core.Path.{◌≡◌, ap, ◌∙◌}
-use mathlib.Core.List.{List, ◌++◌}
-use Prim.Native.Nat.{ℕ, ◌+◌, ◌<◌, ◌≤◌}
-use native.Mathlib.Numerals.{add-one}
-use native.Mathlib.Omega.{arith}
-use lib.ListN.{length, take, get_or, length-append}
+use Rattle.std.proofs.Common.{◌≡◌, refl, sym, ap, ◌∙◌, List, [], ◌∷◌, ◌++◌, ℕ, ◌+◌, ◌<◌, ◌≤◌, add-one, arith, length, take, get_or, length-append, sum_by}
+use Rattle.std.proofs.lemmas.List.Sums.{sum_by-cons}
 use Rattle.ground.specs.Lists.{join, along}
 use Rattle.ground.proofs.Lists.{join_next, join_few}
 use Rattle.report.specs.declared.Report.{Report}
@@ -24,6 +20,14 @@ module _ (values : List ℕ) (j : ℕ) (h : j < length values) where
   -- it has room where all have
   pub next_within : length (along (take j values) code) + length (code (get_or values j 0)) ≤ length (along values code)
   next_within = omega (arith, length_next, join_few code values (j + 1))
+
+-- the bytes of numbers are those of each, counted together
+pub length_along : (values : List ℕ) → length (along values code) ≡ sum_by (λ n. length (code n)) values
+unfolding join
+length_along [] = refl
+length_along (n ∷ values) =
+    length-append (code n) (along values code) ∙ ap (λ k. length (code n) + k) (length_along values)
+    ∙ sym (sum_by-cons (λ n. length (code n)) n values)
 
 -- a report has 8 to 40 bytes
 pub report_bytes : (r : Report) → (8 ≤ length (coded r)) × (length (coded r) ≤ 40)

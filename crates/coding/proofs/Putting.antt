@@ -1,14 +1,12 @@
 -- A number as it is written, byte by byte: how many bytes are done, and which are left.
-use mathlib.Core.Path.{◌≡◌, refl, sym, ap, ◌∙◌}
-use mathlib.Core.List.{List, [], ◌∷◌, ◌++◌}
-use Prim.Native.Nat.{ℕ, zero, suc, ◌+◌, ◌*◌, ◌/◌, ◌%◌, ◌^◌, ◌<◌, ◌≤◌}
+use Rattle.std.proofs.Common.{◌≡◌, refl, sym, ap, ◌∙◌, List, [], ◌∷◌, ◌++◌, ℕ, zero, suc, ◌+◌, ◌*◌, ◌/◌, ◌%◌, ◌^◌, ◌<◌, ◌≤◌, add-one, arith, length, take, drop, set, get_or, length-drop}
 use native.Mathlib.Nat.{pow-suc}
-use native.Mathlib.Numerals.{add-one}
-use native.Mathlib.Omega.{arith}
-use lib.ListN.{length, take, drop, set, get_or, length-drop}
-use lib.Seq.{take-suc, take_all, drop-cons}
+use lib.Dec.{ltb}
+use lib.Seq.{take-suc, take-suc-set, take_all, drop-cons}
+use borrow.Author.Tests.{ltb-true, ltb-false}
 use Rattle.ground.specs.Lent.{Adds}
-use Rattle.ground.proofs.Adds.{adds_nothing, adds_byte}
+use Rattle.ground.proofs.Adds.{adds_byte}
+use Rattle.ground.proofs.Booleans.{either}
 use Rattle.groups.specs.Number.{code_in, code}
 use Rattle.groups.proofs.Coded.{code_one, code_more}
 
@@ -60,30 +58,36 @@ module _ {n rest k : ℕ} where
       let last = next_last b h in
       omega (arith, last.within, length-drop (k + 1) (code n), ap length last.back)
 
--- ---- and those that are done stand at the front of what was lent
+  -- one is left
+  pub begun_inside : Begun n rest k → k < length (code n)
+  begun_inside b =
+      either (ltb rest 128) (λ t. (next_last b (ltb-true rest 128 t)).within) (λ t. (next_more b (ltb-false rest 128 t)).within)
 
-pub record Stored (n : ℕ) (lent : List ℕ) (rest k : ℕ) (left : List ℕ) : Type 0 where
-  pub begun : Begun n rest k
-  pub adds : Adds (take k (code n)) 0 lent k left
+module _ {n rest k : ℕ} (b : Begun n rest k) where
+  -- the byte that is next is the last just where no other is left
+  pub more_left : k + 1 < length (code n) → 128 ≤ rest
+  more_left h =
+      either (ltb rest 128) (λ t. let last = begun_last b (ltb-true rest 128 t) in absurd (omega arith)) (λ t. ltb-false rest 128 t)
 
-pub stored_none : (n : ℕ) (lent : List ℕ) → n < 2 ^ 32 → Stored n lent n 0 lent
-stored_none n lent h = record { begun = begun_none n h; adds = adds_nothing lent 0 (omega arith) }
+  pub none_left : length (code n) ≡ k + 1 → rest < 128
+  none_left e =
+      either (ltb rest 128) (λ t. ltb-true rest 128 t) (λ t.
+      let more = begun_inside (begun_more b (ltb-false rest 128 t)) in
+      absurd (omega arith))
 
-module _ {n rest k : ℕ} {lent left : List ℕ} (s : Stored n lent rest k left) (room : length (code n) ≤ length lent) where
-  pub more_within : 128 ≤ rest → k < length lent
-  more_within h = omega (arith, (next_more s.begun h).within)
+  -- ---- and those that are done stand at the front
+  pub stored_more : (front : List ℕ) → take k front ≡ take k (code n) → k < length front → 128 ≤ rest
+      → take (k + 1) (set front k (128 + rest % 128)) ≡ take (k + 1) (code n)
+  stored_more front so_far within h =
+      rw (add-one k) (take-suc-set front k (128 + rest % 128) within)
+      ∙ ap (λ (xs : List ℕ). xs ++ (128 + rest % 128) ∷ []) so_far ∙ sym (next_more b h).front
 
-  pub last_within : rest < 128 → k < length lent
-  last_within h = omega (arith, (next_last s.begun h).within)
-
-  pub stored_more : 128 ≤ rest → Stored n lent (rest / 128) (k + 1) (set left k (128 + rest % 128))
-  stored_more h = record {
-    begun = begun_more s.begun h;
-    adds = rw (next_more s.begun h).front (adds_byte s.adds (128 + rest % 128) (more_within h));
-  }
-
-  pub stored_last : rest < 128 → Adds (code n) 0 lent (k + 1) (set left k rest)
-  stored_last h =
+  pub stored_last : (lent front : List ℕ) → length front ≡ k → k < length lent → take k front ≡ take k (code n) → rest < 128
+      → Adds (code n) 0 lent (k + 1) (set (front ++ drop k lent) k rest)
+  stored_last lent front long room so_far h =
       let all : take k (code n) ++ rest ∷ [] ≡ code n =
-      sym (next_last s.begun h).front ∙ take_all (k + 1) (code n) (omega (arith, begun_last s.begun h)) in
-      rw all at (adds_byte s.adds rest (last_within h))
+      sym (next_last b h).front ∙ take_all (k + 1) (code n) (omega (arith, begun_last b h)) in
+      let same : front ≡ take k (code n) = sym (take_all k front (omega arith)) ∙ so_far in
+      let before : Adds (take k (code n)) 0 lent k (front ++ drop k lent) =
+      record { long = omega (arith, ap length same); within = omega arith; stands = rw same } in
+      rw all at (adds_byte before rest room)

@@ -1,7 +1,7 @@
 // Reports as a log has them, written: eight numbers, each in groups of seven bits, into a lent buffer from any place on.
 #![tactic(auto)]
 
-ghost use Rattle.std.specs.Prelude.{◌≡◌, ◌+◌, ◌≤◌, leb, length};
+ghost use Rattle.std.specs.Prelude.{◌≡◌, ◌+◌, ◌≤◌, leb, length, sum_by};
 ghost use Rattle.ground.specs.Lists.{along};
 ghost use Rattle.ground.specs.Lent.{Adds};
 ghost use Rattle.groups.specs.Number.{code};
@@ -9,18 +9,16 @@ ghost use Rattle.coding.specs.Coding.{WritesReport};
 
 use report::Report;
 
-// What is given where a report is to be written. refusal is 0, and next the place behind the report; or refusal is 1, there is
-// no room for the whole of it, and next is where it was to start.
-#[repr(C)]
-#[derive(Clone, Copy)]
-pub struct LogWritten {
-    pub refusal: u32,
-    pub next: u64,
+// There is no room for the whole of a report, which was to start at this place.
+#[derive(Clone, Copy, PartialEq, Eq)]
+pub struct NoRoom {
+    pub from: usize,
 }
 
-// How many bytes a number has, 1 to 5.
+// How many bytes a number has, 1 to 5. It is divided as it is written: a form by `ilog2`, which 0 has none of, is no plainer.
 fn length_of(n: u32) -> usize
-    ensures { result ≡ length (code n) }
+    ensures value { result ≡ length (code n) }
+    ensures few { (1 ≤ result) × (result ≤ 5) }
 {
     let mut high = n;
     let mut k = 0;
@@ -33,25 +31,16 @@ fn length_of(n: u32) -> usize
 
 // How many bytes the numbers of a report have.
 fn bytes_of(values: [u32; 8]) -> usize
-    ensures { result ≡ length (along values code) }
+    ensures { result ≡ sum_by (λ n. length (code n)) values }
 {
-    let mut k = 0;
-    let mut i = 0;
-    while i < 8 {
-        k += length_of(values[i]);
-        i += 1;
-    }
-    k
+    values.iter().map(|n| length_of(*n)).sum()
 }
 
 // Whether so many bytes have room from a place of a buffer of a size on.
 fn is_room(bytes: usize, from: usize, size: usize) -> bool
     ensures { result ≡ leb (from + bytes) size }
 {
-    if size < from {
-        return false;
-    }
-    bytes <= size - from
+    from <= size && bytes <= size - from
 }
 
 // Writes a number at the front of a buffer that has room for it, and gives how many bytes it has. 200 gives C8 01.
@@ -59,39 +48,30 @@ fn put(n: u32, out: &mut [u8]) -> usize
     requires { length (code n) ≤ length out.old }
     ensures { Adds (code n) 0 out.old result out.new }
 {
+    let last = length_of(n) - 1;
     let mut rest = n;
-    let mut k = 0;
-    while rest >= 128 {
-        out[k] = 128 + (rest % 128) as u8;
+    for byte in &mut out[..last] {
+        *byte = 128 + (rest % 128) as u8;
         rest /= 128;
-        k += 1;
     }
-    out[k] = rest as u8;
-    k + 1
+    out[last] = rest as u8;
+    last + 1
 }
 
 // Writes a report into a lent buffer from a place on, where there is room for the whole of it, and gives the place behind
-// it; all other bytes stay. Otherwise, a start past the end among it, the refusal is 1 and every byte stays. Any eight
+// it; all other bytes stay. Otherwise, a start past the end among it, there is no room, and every byte stays. Any eight
 // numbers are written. The report of (2,1) with mode 1, one layer, i11 = 1, i2 = 1 and the rest 0 gives
 // 02 01 01 01 01 00 00 01.
-pub fn write(r: Report, out: &mut [u8], from: usize) -> LogWritten
+pub fn write(r: Report, out: &mut [u8], from: usize) -> Result<usize, NoRoom>
     ensures { WritesReport r from out.old result out.new }
 {
     let values = eight::values_of(r);
     if !is_room(bytes_of(values), from, out.len()) {
-        return LogWritten {
-            refusal: 1,
-            next: from as u64,
-        };
+        return Err(NoRoom { from });
     }
     let mut at = from;
-    let mut j = 0;
-    while j < 8 {
-        at += put(values[j], &mut out[at..]);
-        j += 1;
+    for n in values {
+        at += put(n, &mut out[at..]);
     }
-    LogWritten {
-        refusal: 0,
-        next: at as u64,
-    }
+    Ok(at)
 }

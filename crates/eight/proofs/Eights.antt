@@ -6,14 +6,15 @@ use native.Mathlib.Omega.{arith}
 use lib.Dec.{lit≤}
 use lib.ListN.{length, take, drop, get_or}
 use lib.Seq.{get_or-take, drop-drop}
-use Rattle.ground.specs.Lists.{join, along, places}
-use Rattle.ground.proofs.Lists.{places_at, length_join}
+use Rattle.std.specs.Simd.{first_chunks}
+use Rattle.ground.specs.Lists.{join, along}
+use Rattle.ground.proofs.Lists.{length_join}
 use Rattle.report.specs.declared.Report.{Report}
 use Rattle.eight.specs.Numbers.{values_of, report_of, eights_of, eights}
 
--- eight places with the first numbers of a list make the report that the list makes
-pub report_of_places : (xs : List ℕ) → report_of (places 8 0 (take 8 xs)) ≡ report_of xs
-report_of_places xs =
+-- eight numbers at the front of a list make the report that the list makes
+report_of_front : (xs : List ℕ) → report_of (take 8 xs) ≡ report_of xs
+report_of_front xs =
     λ i. record {
       n1 = at 0 (lit≤ tt) i;
       n2 = at 1 (lit≤ tt) i;
@@ -25,8 +26,17 @@ report_of_places xs =
       i2 = at 7 (lit≤ tt) i;
     }
   where
-    at : (k : ℕ) → k < 8 → get_or (places 8 0 (take 8 xs)) k 0 ≡ get_or xs k 0
-    at k h = places_at 8 0 (take 8 xs) k h ∙ get_or-take 8 xs k 0 h
+    at : (k : ℕ) → k < 8 → get_or (take 8 xs) k 0 ≡ get_or xs k 0
+    at k h = get_or-take 8 xs k 0 h
+
+-- so do those of a place of a list that is cut into eights
+pub report_of_chunk : (k : ℕ) (xs : List ℕ) (j : ℕ) → j < k
+    → report_of (get_or (first_chunks 8 k xs) j []) ≡ report_of (drop (8 * j) xs)
+report_of_chunk zero xs j h = absurd (omega arith)
+report_of_chunk (suc k) xs zero h = report_of_front xs
+report_of_chunk (suc k) xs (suc j) h =
+    let place : 8 + 8 * j ≡ 8 * suc j = omega arith in
+    report_of_chunk k (drop 8 xs) j (omega arith) ∙ ap report_of (drop-drop (8 * j) 8 xs ∙ ap (λ (n : ℕ). drop n xs) place)
 
 -- ---- numbers as reports
 

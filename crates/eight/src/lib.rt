@@ -1,4 +1,5 @@
-// A report as eight numbers, in the order in which lines and logs have them.
+// A report as eight numbers, in the order in which lines and logs have them. They are functions and no `From`: a report and
+// an array are types of other crates.
 #![tactic(auto)]
 
 ghost use Rattle.std.specs.Prelude.{◌≡◌};

@@ -32,10 +32,6 @@ pub cond_each : {A B : Type 0} (f : A → B) (b : Bool) {x y : A} {m n : B} → 
 cond_each f true p q = p
 cond_each f false p q = q
 
-pub or_false : (a b : Bool) → (a || b) ≡ false → (a ≡ false) × (b ≡ false)
-or_false true b e = absurd (true≢false e)
-or_false false b e = (refl, e)
-
 pub or_nothing : (a : Bool) → a ≡ (a || false)
 or_nothing a = sym (mathlib.Core.Bool.or-false a)
 

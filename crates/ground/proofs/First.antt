@@ -6,9 +6,10 @@ use mathlib.Core.List.{List, [], ◌∷◌, ◌++◌, append-nil}
 use Prim.Native.Nat.{ℕ}
 use native.Mathlib.Omega.{arith}
 use lib.Dec.{T, eqb, ltb, eqb_refl, eqb→eq, ltb→lt}
+use Rattle.std.proofs.lemmas.Bool.{or_parts}
 use Rattle.ground.specs.Lists.{some, among}
 use Rattle.ground.specs.First.{first, numbered, part, None, FirstOf}
-use Rattle.ground.proofs.Booleans.{either, or_false}
+use Rattle.ground.proofs.Booleans.{either}
 use Rattle.ground.proofs.Tests.{and_left, and_right, or_cases, or_left, or_right}
 
 module _ (test : ℕ → Bool) where
@@ -108,7 +109,7 @@ pub some_none : (test : ℕ → Bool) (ks : List ℕ) → some test ks ≡ false
 unfolding some
 some_none test [] e = none_nil test
 some_none test (k ∷ ks) e =
-    let p = or_false (test k) (some test ks) e in
+    let p = or_parts (test k) (some test ks) e in
     none_cons test k ks p.0 (some_none test ks p.1)
 
 -- every number of js stands in ks

@@ -7,8 +7,6 @@ pub mod Sums
 pub mod All
 pub mod First
 pub mod Written
-pub mod Copied
-pub mod Moved
 pub mod Adds
 pub mod Writes
 pub mod Unique

@@ -13,12 +13,6 @@ use Rattle.ground.specs.Lists.{join, places, some, each, among, Member, member_f
 use Rattle.ground.specs.Lists.{NoRepeats, once_nil, once_cons}
 use Rattle.ground.proofs.Tests.{and_left, and_right, or_cases, or_left, or_right}
 
--- what stands at a place within a list, whatever is read past its end
-pub at_within : {A : Type 0} (xs : List A) (i : ℕ) (x y : A) → i < length xs → get_or xs i x ≡ get_or xs i y
-at_within [] i x y h = absurd (not-suc-le-zero h)
-at_within (a ∷ xs) zero x y h = refl
-at_within (a ∷ xs) (suc i) x y h = at_within xs i x y (le_of_suc-le-suc h)
-
 -- what stands behind the front of a part of a list
 pub drop_behind : {A : Type 0} (xs front rest : List A) (at m : ℕ) → drop at xs ≡ front ++ rest → m ≡ at + length front
     → drop m xs ≡ rest
@@ -29,23 +23,6 @@ drop_behind xs front rest at m e p =
     ∙ drop_at front rest (length front) refl
 
 -- ---- lists that are mapped
-
-module _ {A B : Type 0} (f : A → B) where
-  -- an element; past the end x and y stand
-  pub map_at : (xs : List A) (i : ℕ) (x : A) (y : B) → i < length xs → get_or (map f xs) i y ≡ f (get_or xs i x)
-  map_at [] i x y h = absurd (not-suc-le-zero h)
-  map_at (z ∷ xs) zero x y h = refl
-  map_at (z ∷ xs) (suc i) x y h = map_at xs i x y (le_of_suc-le-suc h)
-
-  pub drop_map : (n : ℕ) (xs : List A) → drop n (map f xs) ≡ map f (drop n xs)
-  drop_map zero xs = refl
-  drop_map (suc n) [] = refl
-  drop_map (suc n) (x ∷ xs) = drop_map n xs
-
-  pub take_map : (n : ℕ) (xs : List A) → take n (map f xs) ≡ map f (take n xs)
-  take_map zero xs = refl
-  take_map (suc n) [] = refl
-  take_map (suc n) (x ∷ xs) = ap (λ (ys : List B). f x ∷ ys) (take_map n xs)
 
 -- at once, or one after the other
 pub map_twice : {A B C : Type 0} (f : A → C) (g : B → C) (h : A → B) → ((x : A) → f x ≡ g (h x)) → (xs : List A)

@@ -5,56 +5,26 @@ ghost use Rattle.std.specs.Prelude.{◌≡◌};
 ghost use Rattle.ground.specs.Copied.{Copied};
 ghost use Rattle.ground.specs.Lent.{to_front};
 
-// Copies the first n bytes to the front of `out` and says so, where both have so many. Otherwise `out` stays as lent.
-pub fn copy(from: &[u8], n: usize, out: &mut [u8]) -> bool
-    ensures { Copied from.now n out.old result out.new }
+// Copies the first n of a slice to the front of another and says so, where both have so many. Otherwise the other stays as
+// lent.
+pub fn copy<T: Copy>(from: &[T], n: usize, to: &mut [T]) -> bool
+    ensures { Copied from.now n to.old result to.new }
 {
-    if from.len() < n {
+    if from.len() < n || to.len() < n {
         return false;
     }
-    if out.len() < n {
-        return false;
-    }
-    let mut i = 0;
-    while i < n {
-        out[i] = from[i];
-        i += 1;
-    }
-    true
-}
-
-// The same of numbers of 16 bits.
-pub fn copy_numbers(numbers: &[u16], n: usize, to: &mut [u16]) -> bool
-    ensures { Copied numbers.now n to.old result to.new }
-{
-    if numbers.len() < n {
-        return false;
-    }
-    if to.len() < n {
-        return false;
-    }
-    let mut k = 0;
-    while k < n {
-        to[k] = numbers[k];
-        k += 1;
-    }
+    to[..n].copy_from_slice(&from[..n]);
     true
 }
 
 // Moves the bytes from a place up to another to the front; those after them stay. Where the second place lies before the
 // first or past the end, all stay.
+#[tactic(auto, unfolding(crate::specs::Lent::is_part))]
 pub fn to_front(part: &mut [u8], from: usize, to: usize)
     ensures { part.new ≡ to_front from to part.old }
 {
-    if to < from {
+    if to < from || part.len() < to {
         return;
     }
-    if part.len() < to {
-        return;
-    }
-    let mut i = from;
-    while i < to {
-        part[i - from] = part[i];
-        i += 1;
-    }
+    part.copy_within(from..to, 0);
 }

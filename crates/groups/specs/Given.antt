@@ -1,21 +1,22 @@
--- What a call gives: the number and the place of each case of a fault, and what is found in each case of what is parsed.
-use Rattle.std.specs.Prelude.{ℕ}
+-- What a call gives: the number and the place of a fault, and what is found in each case of what is read.
+use Rattle.std.specs.Prelude.{ℕ, Result, Ok, Err}
 use Rattle.groups.specs.declared.Fault.{Fault}
-use Rattle.groups.specs.declared.Fault.TheVariants.{Ends, Padded, Large}
-use Rattle.groups.specs.declared.Parsed.{Parsed}
-use Rattle.groups.specs.declared.Parsed.TheVariants.{Number, Broken}
+use Rattle.groups.specs.declared.Kind.TheVariants.{Ends, Padded, Large}
+use Rattle.groups.specs.declared.Kind.{Kind}
+use Rattle.groups.specs.declared.Numeral.{Numeral}
 use Rattle.groups.specs.Number.{Found, value, fault}
 
+abbrev pub kind_number : Kind → ℕ
+kind_number Ends = 1
+kind_number Padded = 2
+kind_number Large = 3
+
 abbrev pub number_of : Fault → ℕ
-number_of (Ends p) = 1
-number_of (Padded p) = 2
-number_of (Large p) = 3
+number_of f = kind_number f.kind
 
 abbrev pub place_of : Fault → ℕ
-place_of (Ends p) = p
-place_of (Padded p) = p
-place_of (Large p) = p
+place_of f = f.place
 
-abbrev pub found_of : Parsed → Found
-found_of (Number n next) = value n next
-found_of (Broken f) = fault (number_of f) (place_of f)
+abbrev pub found_of : Result Numeral Fault → Found
+found_of (Ok n) = value n.value n.next
+found_of (Err f) = fault (number_of f) (place_of f)

@@ -3,24 +3,24 @@
 
 ghost use Rattle.std.specs.Prelude.{◌≡◌};
 ghost use Rattle.groups.specs.Number.{is_padded, is_large, number_at};
-ghost use Rattle.groups.specs.Given.{number_of, place_of, found_of};
+ghost use Rattle.groups.specs.Given.{number_of, found_of};
 
-// What is wrong with a number, and the place of the byte that shows it.
-#[derive(Clone, Copy)]
-pub enum Fault {
-    // The bytes end inside it, or before it; the place is that of the byte that is missing.
-    Ends(usize),
+// What can be wrong with a number. C has each case by its number.
+#[derive(Clone, Copy, PartialEq, Eq)]
+pub enum Kind {
+    // The bytes end inside it, or before it.
+    Ends = 1,
     // It has several bytes, and the last is zero.
-    Padded(usize),
+    Padded = 2,
     // Its fifth byte is above 15.
-    Large(usize),
+    Large = 3,
 }
 
-// What is read at a place: a number and the place after it, or a fault.
-#[derive(Clone, Copy)]
-pub enum Parsed {
-    Number(u32, usize),
-    Broken(Fault),
+// What is wrong with a number, and the place of the byte that shows it; where the bytes end, of the byte that is missing.
+#[derive(Clone, Copy, PartialEq, Eq)]
+pub struct Fault {
+    pub kind: Kind,
+    pub place: usize,
 }
 
 impl Fault {
@@ -28,70 +28,65 @@ impl Fault {
     pub fn number(self) -> u32
         ensures { result ≡ number_of self }
     {
-        match self {
-            Fault::Ends(_) => 1,
-            Fault::Padded(_) => 2,
-            Fault::Large(_) => 3,
-        }
+        self.kind as u32
     }
+}
 
-    // Its place.
-    pub fn place(self) -> usize
-        ensures { result ≡ place_of self }
-    {
-        match self {
-            Fault::Ends(p) => p,
-            Fault::Padded(p) => p,
-            Fault::Large(p) => p,
-        }
-    }
+// A number that is read, and the place behind it.
+#[derive(Clone, Copy, PartialEq, Eq)]
+pub struct Numeral {
+    pub value: u32,
+    pub next: usize,
 }
 
 // Whether a byte, after i others of its number, is the last of several and zero.
-fn is_padded(i: u32, b: u8) -> bool
+#[tactic(auto, unfolding(crate::specs::Number::is_padded))]
+fn is_padded(i: usize, b: u8) -> bool
     ensures { result ≡ is_padded i b }
 {
-    if i == 0 {
-        return false;
-    }
-    b == 0
+    i > 0 && b == 0
 }
 
 // Whether it is the fifth and above 15.
-fn is_large(i: u32, b: u8) -> bool
+#[tactic(auto, unfolding(crate::specs::Number::is_large))]
+fn is_large(i: usize, b: u8) -> bool
     ensures { result ≡ is_large i b }
 {
-    if i != 4 {
-        return false;
-    }
-    b > 15
+    i == 4 && b > 15
 }
 
 // Reads the number at a place: C8 01 is 200. It has the fewest bytes, at most five, and at most 32 bits; anything else is a
 // fault, the first in the order of the bytes. At a place past the end nothing is left to read.
-pub fn number_at(bytes: &[u8], from: usize) -> Parsed
+pub fn number_at(bytes: &[u8], from: usize) -> Result<Numeral, Fault>
     ensures { found_of result ≡ number_at bytes.now from }
 {
     let mut value: u32 = 0;
     let mut weight: u32 = 1;
-    let mut i: u32 = 0;
-    let mut at = from;
-    while at < bytes.len() {
+    for at in from..bytes.len() {
         let b = bytes[at];
-        if is_padded(i, b) {
-            return Parsed::Broken(Fault::Padded(at));
+        if is_padded(at - from, b) {
+            return Err(Fault {
+                kind: Kind::Padded,
+                place: at,
+            });
         }
-        if is_large(i, b) {
-            return Parsed::Broken(Fault::Large(at));
+        if is_large(at - from, b) {
+            return Err(Fault {
+                kind: Kind::Large,
+                place: at,
+            });
         }
-        let group = (b % 128) as u32;
-        value += group * weight;
-        at += 1;
+        value += (b % 128) as u32 * weight;
         if b < 128 {
-            return Parsed::Number(value, at);
+            return Ok(Numeral {
+                value,
+                next: at + 1,
+            });
         }
         weight *= 128;
-        i += 1;
     }
-    Parsed::Broken(Fault::Ends(at))
+    Err(Fault {
+        kind: Kind::Ends,
+        place: from.max(bytes.len()),
+    })
 }

@@ -1,62 +1,38 @@
 -- The digits at the front of a text.
-use mathlib.Core.Path.{◌≡◌, refl, ap}
+use mathlib.Core.Path.{◌≡◌, refl, ap, ◌∙◌}
 use mathlib.Core.Bool.{true, false, ◌&&◌}
 use mathlib.Core.List.{List, [], ◌∷◌, ◌++◌}
-use Prim.Native.Nat.{ℕ, zero, suc, ◌+◌, ◌-◌, ◌<◌, ◌≤◌}
-use native.Mathlib.Numerals.{add-one}
+use Prim.Native.Nat.{ℕ, zero, suc, ◌+◌, ◌<◌, ◌≤◌}
 use native.Mathlib.Omega.{arith}
-use lib.Dec.{eqb, leb, ltb}
-use lib.ListN.{length, drop, get_or}
-use borrow.Author.Tests.{leb-true, le-leb, ltb-true, ltb-false}
+use lib.Dec.{eqb, leb}
+use lib.ListN.{length, take, drop, get_or}
+use lib.Seq.{take_at}
+use borrow.Author.Tests.{le-leb, leb-true}
+use Rattle.std.specs.Char.{is_ascii_digit}
+use Rattle.std.specs.List.{prefix_len}
 use Rattle.ground.proofs.Booleans.{either, and_true_left, and_true_right}
-use Rattle.ground.specs.Cases.{◌⇒◌∣◌}
 use Rattle.ground.specs.Lists.{each}
 use Rattle.text.specs.Words.{nought, ending}
 use Rattle.line.specs.Form.{is_digit, value, is_decimal}
 use Rattle.line.specs.Scan.{lead, next, is_ended}
 
--- ---- at a place of a line, by the byte that stands there; past the end stands 0, which is no digit
-
-lead_by_byte : (k at : ℕ) (line : List ℕ)
-    → lead (suc k) (drop at line) ≡ (is_digit (get_or line at 0) ⇒ get_or line at 0 ∷ lead k (drop (suc at) line) ∣ [])
+-- as the library counts them
+pub lead_counted : (k : ℕ) (bs : List ℕ) → prefix_len is_ascii_digit (take k bs) ≡ length (lead k bs)
 unfolding lead is_digit
-lead_by_byte k zero [] = refl
-lead_by_byte k zero (b ∷ bs) = refl
-lead_by_byte k (suc at) [] = refl
-lead_by_byte k (suc at) (b ∷ bs) = lead_by_byte k at bs
-
--- before the last place that is read
-pub lead_at : (last at : ℕ) (line : List ℕ) → lead (last - at) (drop at line)
-    ≡ (ltb at last && is_digit (get_or line at 0) ⇒ get_or line at 0 ∷ lead (last - (at + 1)) (drop (at + 1) line) ∣ [])
-unfolding lead
-lead_at last at line =
-    either (ltb at last)
-    (λ l.
-    let more : last - at ≡ suc (last - (at + 1)) = omega (arith, ltb-true at last l) in
-    rw (l, more, lead_by_byte, add-one))
-    (λ l.
-    let none : last - at ≡ 0 = omega (arith, ltb-false at last l) in
-    rw (l, none))
-
--- what is known where a digit stands
-pub digit_at : (last at b : ℕ) → (ltb at last && is_digit b) ≡ true → (at < last) × (nought ≤ b) × (b ≤ nought + 9)
-unfolding is_digit
-digit_at last at b e =
-    let digit = and_true_right (ltb at last) _ e in (
-      ltb-true at last (and_true_left _ (is_digit b) e),
-      leb-true nought b (and_true_left _ (leb b (nought + 9)) digit),
-      leb-true b (nought + 9) (and_true_right (leb nought b) _ digit),
-    )
+lead_counted zero bs = refl
+lead_counted (suc k) [] = refl
+lead_counted (suc k) (b ∷ bs) =
+    either (is_digit b) (λ e. rw (e, lead_counted k bs) (omega arith)) (λ e. rw e)
 
 -- ---- what leads: digits, at most so many
 
-lead_digits : (k : ℕ) (bs : List ℕ) → each is_digit (lead k bs) ≡ true
+pub lead_digits : (k : ℕ) (bs : List ℕ) → each is_digit (lead k bs) ≡ true
 unfolding lead each
 lead_digits zero bs = refl
 lead_digits (suc k) [] = refl
 lead_digits (suc k) (b ∷ bs) = either (is_digit b) (λ e. rw (e, e) (lead_digits k bs)) (λ e. rw e)
 
-lead_few : (k : ℕ) (bs : List ℕ) → length (lead k bs) ≤ k
+pub lead_few : (k : ℕ) (bs : List ℕ) → length (lead k bs) ≤ k
 unfolding lead
 lead_few zero bs = omega arith
 lead_few (suc k) [] = omega arith
@@ -68,6 +44,9 @@ unfolding lead
 lead_front zero bs = refl
 lead_front (suc k) [] = refl
 lead_front (suc k) (b ∷ bs) = either (is_digit b) (λ e. rw e (ap (λ (x : List ℕ). b ∷ x) (lead_front k bs))) (λ e. rw e)
+
+pub lead_taken : (k : ℕ) (bs : List ℕ) → take (length (lead k bs)) bs ≡ lead k bs
+lead_taken k bs = ap (take (length (lead k bs))) (lead_front k bs) ∙ take_at (lead k bs) _ _ refl
 
 -- digits are found where they are followed by a byte that is none
 pub lead_word : (k : ℕ) (w : List ℕ) (x : ℕ) (bs : List ℕ) → each is_digit w ≡ true → length w ≤ k → is_digit x ≡ false
@@ -85,3 +64,14 @@ pub ended_next : (bs : List ℕ) (left : ℕ) → is_ended bs left
     ≡ (leb 1 (length (next bs)) && leb (value (next bs)) 65535 && eqb (get_or bs (length (next bs)) 0) (ending left))
 unfolding is_ended is_decimal
 ended_next bs left = rw (lead_digits 5 bs, le-leb (length (next bs)) 5 (lead_few 5 bs))
+
+-- ---- in what leads each byte is a digit
+
+pub digit_at : (bs : List ℕ) (i : ℕ) → each is_digit bs ≡ true → i < length bs
+    → (nought ≤ get_or bs i 0) × (get_or bs i 0 ≤ nought + 9)
+unfolding each is_digit
+digit_at [] i e h = absurd (omega arith)
+digit_at (b ∷ bs) zero e h =
+    let digit = and_true_left (is_digit b) _ e in
+    (leb-true nought b (and_true_left _ (leb b (nought + 9)) digit), leb-true b (nought + 9) (and_true_right (leb nought b) _ digit))
+digit_at (b ∷ bs) (suc i) e h = digit_at bs i (and_true_right (is_digit b) _ e) (omega arith)

@@ -13,7 +13,7 @@ use Rattle.ground.proofs.Booleans.{either, and_true_left, and_true_right}
 use Rattle.report.specs.declared.Report.{Report}
 use Rattle.text.specs.Words.{nought, digit, decimal_in, decimal, line_of}
 use Rattle.text.proofs.Words.{decimal_few, line_few}
-use Rattle.line.specs.declared.Reading.TheVariants.{Read}
+use Rattle.std.specs.Prelude.{Some}
 use Rattle.eight.specs.Numbers.{values_of}
 use Rattle.line.specs.Form.{is_digit, value, value_after, is_decimal, Reads}
 use Rattle.line.proofs.Scanned.{words, joined_found}
@@ -85,7 +85,7 @@ row_reads xs a =
     rw (← length-map xs decimal, (joined_found (map decimal xs) read.0).1) read.1
 
 -- and the line of a report's numbers is read as that report
-pub report_reads : (r : Report) → All (λ x. x ≤ 65535) (values_of r) → Reads (line_of (values_of r)) (Read r)
+pub report_reads : (r : Report) → All (λ x. x ≤ 65535) (values_of r) → Reads (line_of (values_of r)) (Some r)
 unfolding line_of
 report_reads r a =
     let read = all_read a in

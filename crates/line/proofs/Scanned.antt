@@ -1,19 +1,19 @@
 -- Words and lines: a text that is good is the words that are found in it, joined; and decimals, joined, are good.
-use mathlib.Core.Path.{◌≡◌, refl, ap, ◌∙◌}
+use mathlib.Core.Path.{◌≡◌, refl, sym, ap, ◌∙◌}
 use mathlib.Core.Bool.{Bool, true, false, false≢true, ◌&&◌}
-use mathlib.Core.List.{List, [], ◌∷◌, ◌++◌}
-use Prim.Native.Nat.{ℕ, zero, suc, ◌+◌, ◌<◌}
+use mathlib.Core.List.{List, [], ◌∷◌, ◌++◌, map}
+use Prim.Native.Nat.{ℕ, zero, suc, ◌+◌, ◌-◌, ◌<◌}
 use native.Mathlib.Numerals.{add-one}
 use native.Mathlib.Omega.{arith}
 use lib.Dec.{leb, ltb}
 use lib.ListN.{length, drop, get_or, get_or-eq_default}
-use lib.Seq.{drop-cons, drop-drop, drop-append-add, get_or-append_seam}
+use lib.Seq.{drop-cons, drop-append-add, get_or-append_seam}
 use borrow.Author.Tests.{eq-eqb, eqb-true, leb-true, ltb-true, ltb-false}
 use Rattle.ground.proofs.Booleans.{either, and_true_left, and_true_right}
 use Rattle.ground.specs.Lists.{each}
 use Rattle.text.specs.Words.{ending, joined}
-use Rattle.line.specs.Form.{is_digit, is_decimal}
-use Rattle.line.specs.Scan.{next, is_ended}
+use Rattle.line.specs.Form.{is_digit, value, is_decimal}
+use Rattle.line.specs.Scan.{next, is_ended, Leads}
 use Rattle.line.proofs.Leading.{lead_front, lead_word}
 
 -- the text after the next word and the byte that follows it
@@ -36,14 +36,6 @@ unfolding words
 length_words zero bs = refl
 length_words (suc left) bs = ap suc (length_words left (rest bs))
 
--- the text after a word that is read at a place of a line
-pub rest_at : {end : ℕ} (at : ℕ) (line : List ℕ) → end ≡ at + length (next (drop at line))
-    → rest (drop at line) ≡ drop (end + 1) line
-unfolding rest
-rest_at {end} at line l =
-    let k : at + suc (length (next (drop at line))) ≡ end + 1 = omega arith in
-    drop-drop (suc (length (next (drop at line)))) at line ∙ rw k
-
 -- ---- what follows a word
 
 -- it is no digit, and is not 0
@@ -58,7 +50,7 @@ module _ (bs : List ℕ) (left : ℕ) (e : is_ended bs left ≡ true) where
   ended_byte = eqb-true _ _ (and_true_right (is_decimal (next bs)) _ e)
 
   -- a byte follows the word
-  ended_within : length (next bs) < length bs
+  pub ended_within : length (next bs) < length bs
   ended_within =
       either (ltb (length (next bs)) (length bs)) (λ t. ltb-true _ _ t)
       (λ t. absurd (omega (arith, get_or-eq_default bs 0 (ltb-false _ _ t), ended_byte, ending_kind left)))
@@ -112,3 +104,38 @@ joined_found (w ∷ ws) d =
     let later = joined_found ws (and_true_right (is_decimal w) _ d) in
     rw (ended w first n (joined ws), rest_joined w first n (joined ws), next_joined w first n (joined ws))
     (later.0, rw later.1)
+
+-- ---- of eight words, j of which are read
+
+module _ (j : ℕ) (h : j < 8) where
+  so_many : 8 - j ≡ suc (7 - j)
+  so_many = omega arith
+
+  fewer : 8 - (j + 1) ≡ 7 - j
+  fewer = omega arith
+
+  pub good_not : (bs : List ℕ) → is_ended bs (7 - j) ≡ false → good (8 - j) bs ≡ false
+  unfolding good
+  good_not bs e = rw (so_many, e)
+
+  module _ {bs : List ℕ} {number : ℕ} {after : List ℕ} (l : Leads bs (7 - j) number after) where
+    after_is : rest bs ≡ after
+    unfolding rest
+    after_is = rw add-one at (sym l.rest)
+
+    pub good_next : good (8 - j) bs ≡ good (8 - (j + 1)) after
+    unfolding good
+    good_next = rw (so_many, fewer, l.ended, after_is)
+
+    pub words_next : map value (words (8 - j) bs) ≡ number ∷ map value (words (8 - (j + 1)) after)
+    unfolding words
+    words_next = rw (so_many, fewer, after_is, l.value)
+
+pub good_some : (bs : List ℕ) → (length bs ≡ 0 → ⊥) → good 0 bs ≡ false
+unfolding good
+good_some [] h = absurd (h refl)
+good_some (b ∷ bs) h = refl
+
+pub nothing_left : (bs : List ℕ) → length bs ≡ 0 → bs ≡ []
+nothing_left [] e = refl
+nothing_left (b ∷ bs) e = absurd (omega arith)

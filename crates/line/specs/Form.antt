@@ -1,12 +1,10 @@
 -- The form of a line: N1 N2 mode v i11 i12 i13 i2, decimals of 1 to 5 digits, at most 65535, one space between, newline
 -- at the end.
-use Rattle.std.specs.Prelude.{◌≡◌, Bool, true, ◌&&◌, List, [], ◌∷◌, map, ℕ, ◌+◌, ◌-◌, ◌*◌, ◌≤◌, leb, length}
+use Rattle.std.specs.Prelude.{◌≡◌, Bool, true, ◌&&◌, List, [], ◌∷◌, map, ℕ, ◌+◌, ◌-◌, ◌*◌, ◌≤◌, leb, length, Option, Some, None}
 use Rattle.ground.specs.Lists.{each}
 use Rattle.report.specs.declared.Report.{Report}
 use Rattle.eight.specs.Numbers.{values_of}
 use Rattle.text.specs.Words.{nought, joined}
-use Rattle.line.specs.declared.Reading.{Reading}
-use Rattle.line.specs.declared.Reading.TheVariants.{Read, Unreadable}
 
 unfoldable pub is_digit : ℕ → Bool
 is_digit b = leb nought b && leb b (nought + 9)
@@ -32,6 +30,6 @@ pub record Form (line : List ℕ) (r : Report) : Type 0 where
   pub few : length line ≤ 256
 
 -- how a line is read: as a report if it has the form of that, and as nothing if it has the form of none
-abbrev pub Reads : List ℕ → Reading → Type 0
-Reads line (Read r) = Form line r
-Reads line Unreadable = (r : Report) → Form line r → ⊥
+abbrev pub Reads : List ℕ → Option Report → Type 0
+Reads line (Some r) = Form line r
+Reads line None = (r : Report) → Form line r → ⊥

@@ -1,72 +1,56 @@
 // The decimals of a line.
-ghost use Rattle.std.specs.Prelude.{◌≡◌, ◌&&◌, ◌+◌, ◌≤◌, ltb, get_or, drop};
-ghost use Rattle.line.specs.Form.{is_digit};
-ghost use Rattle.line.specs.Scan.{Leads, is_ended};
+ghost use Rattle.std.specs.Prelude.{◌≡◌, ◌≤◌, true, false, take, length, MatchOption};
+ghost use Rattle.std.specs.List.{prefix_len};
+ghost use Rattle.std.specs.Char.{is_ascii_digit};
+ghost use Rattle.ground.specs.Lists.{each};
+ghost use Rattle.line.specs.Form.{is_digit, value};
+ghost use Rattle.line.specs.Scan.{is_ended, Leads};
 
-// A number that was read, and the place after its last digit.
+// A number that was read, and the text after what follows it.
 #[derive(Clone, Copy)]
-pub struct Number {
+pub struct Number<'a> {
     pub value: u32,
-    pub end: usize,
+    pub rest: &'a [u8],
 }
 
 // The most digits that a decimal has.
-const MOST_DIGITS: u32 = 5;
+const MOST_DIGITS: usize = 5;
 
 // The largest number of a line.
 const LARGEST: u32 = 65535;
 
-// The byte at a place of a line; 0 past its end.
-fn byte_at(line: &[u8], at: usize) -> u8
-    ensures { result ≡ get_or line.now at 0 }
+// How many digits stand at the front of a text, of five at most.
+fn leading(line: &[u8]) -> usize
+    ensures { result ≡ prefix_len is_ascii_digit (take 5 line.now) }
 {
-    if at < line.len() { line[at] } else { 0 }
+    line.iter()
+        .take(MOST_DIGITS)
+        .take_while(|b| b.is_ascii_digit())
+        .count()
 }
 
-// Whether a digit stands at a place before the last.
-fn is_digit(line: &[u8], at: usize, last: usize) -> bool
-    ensures { result ≡ (ltb at last && is_digit (get_or line.now at 0)) }
+// The number of five digits at most.
+fn value(word: &[u8]) -> u32
+    requires digits { each is_digit word.now ≡ true }
+    requires few { length word.now ≤ 5 }
+    ensures { result ≡ value word.now }
 {
-    if at >= last {
-        return false;
+    let mut n = 0;
+    for b in word {
+        n = 10 * n + (*b - b'0') as u32;
     }
-    let b = byte_at(line, at);
-    if b < b'0' {
-        return false;
-    }
-    b <= b'9'
+    n
 }
 
-// The digits from a place on, at most five of them.
-pub fn leading(line: &[u8], from: usize) -> Number
-    requires { from ≤ 256 }
-    ensures { Leads (drop from line.now) from result × (result.end ≤ from + 5) }
+// The decimal at the front of a text, where it is followed by what ends a word after which so many are left.
+pub fn next<'a>(line: &'a [u8], left: usize) -> Option<Number<'a>>
+    ensures { MatchOption result (is_ended line.now left ≡ false) (λ n. Leads line.now left n.value n.rest.now) }
 {
-    let last = from + MOST_DIGITS as usize;
-    let mut value = 0;
-    let mut end = from;
-    while is_digit(line, end, last) {
-        value = 10 * value + (byte_at(line, end) - b'0') as u32;
-        end += 1;
+    let (word, after) = line.split_at(leading(line));
+    let value = value(word);
+    let (end, rest) = after.split_first()?;
+    if word.is_empty() || value > LARGEST || *end != text::ending(left) {
+        return None;
     }
-    Number {
-        value: value,
-        end: end,
-    }
-}
-
-// Whether a number that was read from a place on is a decimal, and is followed by what ends a word after which so many
-// are left.
-pub fn ends(line: &[u8], from: usize, n: Number, left: usize) -> bool
-    requires { Leads (drop from line.now) from n }
-    ensures { result ≡ is_ended (drop from line.now) left }
-{
-    let end = n.end;
-    if end == from {
-        return false;
-    }
-    if n.value > LARGEST {
-        return false;
-    }
-    byte_at(line, end) == text::ending(left)
+    Some(Number { value, rest })
 }

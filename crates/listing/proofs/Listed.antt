@@ -1,35 +1,17 @@
 -- The lines of a listing: word by word, and how long they are.
 use mathlib.Core.Path.{◌≡◌, refl}
 use mathlib.Core.List.{List, [], ◌∷◌, ◌++◌, append_assoc}
-use Prim.Native.Nat.{ℕ, ◌+◌, ◌-◌, ◌^◌, ◌<◌, ◌≤◌}
-use native.Mathlib.Nat.{zero-mul, one-mul, mod-eq_of_lt}
-use native.Mathlib.Numerals.{add-one}
+use Prim.Native.Nat.{ℕ, ◌+◌, ◌^◌, ◌<◌, ◌≤◌}
 use native.Mathlib.Omega.{arith}
 use lib.Dec.{lit≤}
-use lib.ListN.{length, get_or, length-append}
-use lib.Seq.{take_all}
+use lib.ListN.{length, length-append}
 use Rattle.ground.specs.Lists.{All}
 use Rattle.ground.proofs.All.{all_each}
 use Rattle.text.specs.Words.{ending, joined, ended, line_of, headed}
-use Rattle.text.specs.Text.{lines_of}
 use Rattle.text.proofs.Words.{ended_few, line_few}
-use Rattle.text.proofs.Lines.{lines_begun, lines_all}
 use Rattle.listing.specs.Listing.{end_text, fault_text, longest_line}
 
--- ---- a line of numbers: one more, and all
-
-pub line_next : (n i : ℕ) (xs : List ℕ) → i < n
-    → lines_begun n (i + 1) xs ≡ lines_begun n i xs ++ ended (get_or xs i 0) (n - 1 - i)
-unfolding lines_begun
-line_next n i xs h = rw (add-one, mod-eq_of_lt h)
-
-pub line_all : (n : ℕ) (xs : List ℕ) → length xs ≡ n → lines_begun n n xs ≡ line_of xs
-unfolding lines_of
-line_all n xs e =
-    let all = lines_all n xs 1 (omega arith) in
-    rw (one-mul n, zero-mul n, take_all n xs (omega arith)) at all
-
--- ---- the others, word by word
+-- ---- word by word
 
 pub end_bytes : end_text ≡ 101 ∷ 110 ∷ 100 ∷ 10 ∷ []
 unfolding end_text headed joined ending

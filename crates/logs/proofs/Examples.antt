@@ -7,18 +7,19 @@ use Prim.Native.Nat.{ℕ, ◌^◌, ◌<◌, ◌≤◌}
 use native.Mathlib.Omega.{arith}
 use lib.Dec.{lit≤}
 use lib.ListN.{get_or, replicate}
+use Rattle.std.specs.Prelude.{Ok, Err}
 use Rattle.ground.specs.Lists.{join, all_nil, all_cons}
 use Rattle.report.specs.declared.Report.{Report}
 use Rattle.eight.specs.Numbers.{values_of, eights_of}
 use Rattle.groups.specs.Number.{value, fault, code_in, code, is_padded, is_large, scan, number_at}
 use Rattle.groups.specs.Relied.{Below, NumberStands, worth}
-use Rattle.groups.specs.declared.Fault.TheVariants.{Padded}
-use Rattle.coding.specs.Coding.{has_room, WritesReport}
-use Rattle.logs.specs.declared.Answer.TheVariants.{Faulty}
+use Rattle.groups.specs.declared.Kind.TheVariants.{Padded}
+use Rattle.coding.specs.Coding.{has_room, no_room, WritesReport}
+use Rattle.logs.specs.declared.Unwritten.TheVariants.{NoRoom, Incomplete}
 use Rattle.logs.specs.declared.LogStep.{LogStep}
 use Rattle.logs.specs.declared.Reader.{Reader}
 use Rattle.logs.specs.Log.{coded, report_step, end_step, fault_step, after, takes, step_at}
-use Rattle.logs.specs.Answer.{Steps}
+use Rattle.logs.specs.Answer.{Handed, Steps}
 use Rattle.logs.specs.Writing.{fitting, WritesReports}
 use Rattle.logs.specs.Relied.{no_more, one_and, HandsOut, Runs, no_call, call_and, ReadsBack, SameAgain}
 use Rattle.logs.proofs.Rewritten.{write_reads_back}
@@ -102,12 +103,16 @@ cut_between_numbers = refl
 
 -- ---- calls
 
--- three calls of a reader at a padded zero
+-- a padded zero, whose second byte is at place 1
+abbrev pub padded_zero : Handed
+padded_zero = Err (record { kind = Padded; place = 1 })
+
+-- three calls of a reader at one
 pub three_calls : (r : Reader) → r.log.now ≡ 128 ∷ 0 ∷ [] → r.at ≡ 0
-    → Runs r (Faulty (Padded 1) ∷ Faulty (Padded 1) ∷ Faulty (Padded 1) ∷ []) r
+    → Runs r (padded_zero ∷ padded_zero ∷ padded_zero ∷ []) r
 unfolding step_at takes after scan is_padded is_large
 three_calls r e z =
-    let step : Steps r (Faulty (Padded 1)) r = record { stays = refl; gives = rw (e, z) } in
+    let step : Steps r padded_zero r = record { stays = refl; gives = rw (e, z) } in
     call_and step (call_and step (call_and step no_call))
 
 -- ---- writing
@@ -120,39 +125,39 @@ nines = 9 ∷ 9 ∷ 9 ∷ 9 ∷ 9 ∷ 9 ∷ 9 ∷ 9 ∷ 9 ∷ 9 ∷ []
 abbrev with_it : List ℕ
 with_it = 9 ∷ 2 ∷ 1 ∷ 1 ∷ 1 ∷ 1 ∷ 0 ∷ 0 ∷ 1 ∷ 9 ∷ []
 
-pub from_one : WritesReport first_report 1 nines (record { refusal = 0; next = 9 }) with_it
+pub from_one : WritesReport first_report 1 nines (Ok 9) with_it
 unfolding join code_in has_room
-from_one = record { refusal = refl; next = refl; leaves = refl }
+from_one = record { gives = refl; leaves = refl }
 
 -- from place 2 on it has just room, and from place 3 on it has none; nor from places past the end
 pub from_two : has_room first_report 2 10 ≡ true
 unfolding join code_in has_room
 from_two = refl
 
-pub from_three : WritesReport first_report 3 nines (record { refusal = 1; next = 3 }) nines
+pub from_three : WritesReport first_report 3 nines (Err (no_room 3)) nines
 unfolding join code_in has_room
-from_three = record { refusal = refl; next = refl; leaves = refl }
+from_three = record { gives = refl; leaves = refl }
 
-pub from_eleven : WritesReport first_report 11 nines (record { refusal = 1; next = 11 }) nines
+pub from_eleven : WritesReport first_report 11 nines (Err (no_room 11)) nines
 unfolding join code_in has_room
-from_eleven = record { refusal = refl; next = refl; leaves = refl }
+from_eleven = record { gives = refl; leaves = refl }
 
 -- two reports, of which the second has no room
 pub one_of_two : WritesReports (2 ∷ 1 ∷ 1 ∷ 1 ∷ 1 ∷ 0 ∷ 0 ∷ 1 ∷ 2 ∷ 1 ∷ 1 ∷ 1 ∷ 1 ∷ 0 ∷ 0 ∷ 1 ∷ []) 1 nines
-    (record { refusal = 1; reports = 1; next = 9 }) with_it
+    (record { all = Err NoRoom; reports = 1; next = 9 }) with_it
 unfolding join code_in has_room fitting eights_of
-one_of_two = record { reports = refl; refusal = refl; next = refl; leaves = refl }
+one_of_two = record { reports = refl; all = refl; next = refl; leaves = refl }
 
 -- nine numbers: a report, and one that is left
 pub nine_numbers : WritesReports (2 ∷ 1 ∷ 1 ∷ 1 ∷ 1 ∷ 0 ∷ 0 ∷ 1 ∷ 2 ∷ []) 1 nines
-    (record { refusal = 2; reports = 1; next = 9 }) with_it
+    (record { all = Err Incomplete; reports = 1; next = 9 }) with_it
 unfolding join code_in has_room fitting eights_of
-nine_numbers = record { reports = refl; refusal = refl; next = refl; leaves = refl }
+nine_numbers = record { reports = refl; all = refl; next = refl; leaves = refl }
 
 -- no numbers: nothing is written and nothing refused, also past the end
-pub no_numbers : WritesReports [] 11 nines (record { refusal = 0; reports = 0; next = 11 }) nines
+pub no_numbers : WritesReports [] 11 nines (record { all = Ok tt; reports = 0; next = 11 }) nines
 unfolding join code_in has_room fitting eights_of
-no_numbers = record { reports = refl; refusal = refl; next = refl; leaves = refl }
+no_numbers = record { reports = refl; all = refl; next = refl; leaves = refl }
 
 -- ---- what was written reads back
 
@@ -169,7 +174,7 @@ first_fits =
     (all_cons (small 0 (lit≤ tt)) (all_cons (small 0 (lit≤ tt)) (all_cons (small 1 (lit≤ tt)) all_nil)))))))
 
 pub reads_back : ReadsBack nines with_it 1 (first_report ∷ []) 9
-reads_back = write_reads_back first_fits from_one refl
+reads_back = write_reads_back first_fits from_one
 
 -- not where another report stands behind it than stood there
 pub not_behind : ReadsBack (nines ++ nines) (with_it ++ replicate 10 7) 1 (first_report ∷ []) 9 → ⊥
@@ -179,11 +184,11 @@ not_behind b =
     omega (arith, same)
 
 pub same_again : SameAgain (2 ∷ 1 ∷ 1 ∷ 1 ∷ 1 ∷ 0 ∷ 0 ∷ 1 ∷ []) (first_report ∷ []) 1 nines
-    (record { refusal = 0; reports = 1; next = 9 }) with_it
-same_again = record { refusal = refl; reports = refl; next = refl; leaves = refl }
+    (record { all = Ok tt; reports = 1; next = 9 }) with_it
+same_again = record { all = refl; reports = refl; next = refl; leaves = refl }
 
 pub not_as_lent : SameAgain (2 ∷ 1 ∷ 1 ∷ 1 ∷ 1 ∷ 0 ∷ 0 ∷ 1 ∷ []) (first_report ∷ []) 1 nines
-    (record { refusal = 0; reports = 1; next = 9 }) nines → ⊥
+    (record { all = Ok tt; reports = 1; next = 9 }) nines → ⊥
 not_as_lent a =
     let same = ap (λ (xs : List ℕ). get_or xs 1 0) a.leaves in
     omega (arith, same)

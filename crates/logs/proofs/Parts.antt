@@ -7,7 +7,8 @@ use Prim.Native.Nat.{ℕ, zero, suc, ◌+◌, ◌-◌, ◌*◌, ◌%◌, ◌^◌
 use native.Mathlib.Omega.{arith}
 use lib.Dec.{ltb}
 use lib.ListN.{length, take, drop, length-take, length-drop}
-use lib.Seq.{take_all, take-nil, drop-drop}
+use lib.Seq.{take_all, drop-drop}
+use Rattle.std.proofs.lemmas.List.{drop-take}
 use borrow.Author.Tests.{ltb-true, ltb-false}
 use Rattle.ground.proofs.Booleans.{either}
 use Rattle.groups.specs.Number.{Found, value, fault, is_padded, is_large, scan, number_at}
@@ -34,12 +35,7 @@ scan_front (suc j) (b ∷ bs) i s at few enough =
     fewer i few not_four = omega arith
 
 drop_take : (m n : ℕ) (xs : List ℕ) → m ≤ n → drop m (take n xs) ≡ take (n - m) (drop m xs)
-drop_take zero n xs h = let all : n - 0 ≡ n = omega arith in rw all
-drop_take (suc m) zero xs h = absurd (omega arith)
-drop_take (suc m) (suc n) [] h = sym (take-nil (suc n - suc m))
-drop_take (suc m) (suc n) (x ∷ xs) h =
-    let fewer : suc n - suc m ≡ n - m = omega arith in
-    rw fewer (drop_take m n xs (omega arith))
+drop_take m n xs h = let all : m + (n - m) ≡ n = omega arith in rw all at (drop-take m (n - m) xs)
 
 module _ (log : List ℕ) (n : ℕ) where
   number_front : (at : ℕ) → at + 5 ≤ n → number_at (take n log) at ≡ number_at log at

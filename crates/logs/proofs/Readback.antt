@@ -7,13 +7,14 @@ use native.Mathlib.Nat.{add-zero}
 use native.Mathlib.Omega.{arith}
 use lib.ListN.{length, drop, length-append, length-drop, drop_of_length-le}
 use Rattle.ground.specs.Lists.{join}
+use Rattle.ground.proofs.Lists.{drop_behind}
 use Rattle.report.specs.declared.Report.{Report}
 use Rattle.groups.specs.Relied.{Below}
 use Rattle.logs.specs.declared.LogStep.{LogStep}
 use Rattle.logs.specs.Log.{coded, log_of, end_step, step_at}
 use Rattle.logs.specs.Relied.{Stands, tells_report, HandsOut, no_more, one_and, AllFit, Hands, none_yet, one_then}
 use Rattle.logs.proofs.Taking.{step_end}
-use Rattle.logs.proofs.Told.{behind, tells_step, report_stands, end_past}
+use Rattle.logs.proofs.Told.{tells_step, report_stands, end_past}
 
 -- every report whose numbers have at most 32 bits can stand in a log, from any place on
 pub written_reads : (rs : List Report) (log : List ℕ) (at : ℕ) → drop at log ≡ log_of rs → AllFit rs → HandsOut log at rs
@@ -21,7 +22,7 @@ unfolding join AllFit
 written_reads [] log at e fit = no_more (step_end log at (omega (arith, length-drop at log, ap length e)))
 written_reads (r ∷ rs) log at e fit =
     let next = at + length (coded r) in
-    let rest : drop next log ≡ log_of rs = behind log (coded r) (log_of rs) at next e refl in
+    let rest : drop next log ≡ log_of rs = drop_behind log (coded r) (log_of rs) at next e refl in
     let stands : Stands log at r next = record { fits = fit.0; bytes = rw rest e; place = refl } in
     one_and (tells_step (tells_report stands)) (written_reads rs log next rest fit.1)
 
@@ -46,7 +47,7 @@ written_hands [] log at rest e fit = rw add-zero none_yet
 written_hands (r ∷ rs) log at rest e fit =
     let next = at + length (coded r) in
     let here : drop at log ≡ coded r ++ (log_of rs ++ rest) = e ∙ append_assoc (coded r) (log_of rs) rest in
-    let after : drop next log ≡ log_of rs ++ rest = behind log (coded r) (log_of rs ++ rest) at next here refl in
+    let after : drop next log ≡ log_of rs ++ rest = drop_behind log (coded r) (log_of rs ++ rest) at next here refl in
     let stands : Stands log at r next = record { fits = fit.0; bytes = rw after here; place = refl } in
     let place : next + length (log_of rs) ≡ at + length (coded r ++ log_of rs) =
     omega (arith, length-append (coded r) (log_of rs)) in

@@ -5,6 +5,7 @@ use Prim.Native.Nat.{ℕ, zero, suc, ◌+◌, ◌-◌, ◌*◌, ◌/◌, ◌%◌
 use native.Mathlib.Nat.{add-zero}
 use native.Mathlib.Omega.{arith}
 use lib.Dec.{leb}
+use Rattle.std.specs.Prelude.{Ok}
 use lib.ListN.{length, take, drop, get_or, length-append, length-take}
 use lib.Seq.{take_all, drop_at}
 use borrow.Author.Tests.{le-leb, lt-leb, leb-true, leb-false, le-ltb, eq-eqb}
@@ -18,7 +19,6 @@ use Rattle.report.specs.declared.Report.{Report}
 use Rattle.eight.specs.Numbers.{values_of, report_of, eights_of, eights}
 use Rattle.eight.proofs.Eights.{eights_of_values}
 use Rattle.groups.specs.Relied.{Below}
-use Rattle.coding.specs.declared.LogWritten.{LogWritten}
 use Rattle.coding.specs.Coding.{coded, has_room, WritesReport}
 use Rattle.coding.proofs.Placed.{is_placed}
 use Rattle.logs.specs.declared.ReportsWritten.{ReportsWritten}
@@ -52,11 +52,11 @@ laid_reads rs from lent room fit =
     }
 
 -- A report that was written reads back, and behind it what stood there.
-pub write_reads_back : {r : Report} {from : ℕ} {lent left : List ℕ} {given : LogWritten} → Below (2 ^ 32) (values_of r)
-    → WritesReport r from lent given left → given.refusal ≡ 0 → ReadsBack lent left from (r ∷ []) given.next
+pub write_reads_back : {r : Report} {from : ℕ} {lent left : List ℕ} {next : ℕ} → Below (2 ^ 32) (values_of r)
+    → WritesReport r from lent (Ok next) left → ReadsBack lent left from (r ∷ []) next
 unfolding join AllFit
-write_reads_back {r} {from} {lent} fits w none =
-    let p = is_placed w none in
+write_reads_back {r} {from} {lent} fits w =
+    let p = is_placed w in
     let one : log_of (r ∷ []) ≡ coded r = append-nil (coded r) in
     rw (p.place, p.stands)
     (rw one at (laid_reads (r ∷ []) from lent (rw one p.room) (fits, tt)))
@@ -139,7 +139,7 @@ rewrites {log} {rs} {from} {lent} {left} {given} below h w room =
     let none : length (along rs values_of) % 8 ≡ 0 = omega arith in
     let few : length (along rs values_of) / 8 ≤ given.reports = omega arith in
     record {
-      refusal = w.refusal ∙ rw (le-ltb _ _ few, eq-eqb _ 0 none);
+      all = w.all ∙ rw (le-ltb _ _ few, eq-eqb _ 0 none);
       reports = reports;
       next = w.next ∙ rw (all, ← same);
       leaves = w.leaves ∙ rw (all, ← same);

@@ -8,6 +8,7 @@ use native.Mathlib.Nat.{add-zero, zero-add}
 use native.Mathlib.Numerals.{add-one}
 use native.Mathlib.Omega.{arith}
 use lib.Dec.{eqb}
+use Rattle.std.specs.Prelude.{Result, Ok, Err}
 use lib.ListN.{length, take, drop, drop_of_length-le}
 use lib.Seq.{drop-cons}
 use borrow.Author.Tests.{lt-ltb, le-ltb}
@@ -19,10 +20,11 @@ use Rattle.ground.proofs.Lists.{join_next}
 use Rattle.report.specs.declared.Report.{Report}
 use Rattle.eight.specs.Numbers.{report_of, eights}
 use Rattle.eight.proofs.Eights.{length_eights, eight_at}
-use Rattle.coding.specs.declared.LogWritten.{LogWritten}
 use Rattle.coding.specs.Coding.{coded, has_room, WritesReport}
 use Rattle.coding.proofs.Placed.{is_placed, is_not_placed}
 use Rattle.logs.specs.declared.ReportsWritten.{ReportsWritten}
+use Rattle.logs.specs.declared.Unwritten.{Unwritten}
+use Rattle.logs.specs.declared.Unwritten.TheVariants.{NoRoom, Incomplete}
 use Rattle.logs.specs.Log.{log_of}
 use Rattle.logs.specs.Writing.{fitting, WritesReports}
 
@@ -79,14 +81,14 @@ module _ (numbers : List ℕ) (from : ℕ) (lent : List ℕ) where
         (join_next coded (eights numbers) j (report_of []) within
         ∙ rw (eight_at (length numbers / 8) numbers j (report_of []) more))
 
-    module _ {given : LogWritten} {then : List ℕ} (w : WritesReport report next left given then) where
-      pub one_standing : given.refusal ≡ 0 → Standing (j + 1) given.next then
-      one_standing none =
-          let p = is_placed w none in
+    module _ {then : List ℕ} where
+      pub one_standing : {place : ℕ} → WritesReport report next left (Ok place) then → Standing (j + 1) place then
+      one_standing {place} w =
+          let p = is_placed w in
           let log = log_of (take j (eights numbers)) in
           let room : from + length log ≤ length lent = omega (arith, p.room, s.place, s.long) in
           let before : Adds log from lent next left = rw (s.place, s.stands) (laid_adds log lent from room) in
-          let here : Adds (coded report) next left given.next then =
+          let here : Adds (coded report) next left place then =
           rw (p.place, p.stands) (laid_adds (coded report) left next p.room) in
           let both = adds_then before here in
           record {
@@ -99,27 +101,27 @@ module _ (numbers : List ℕ) (from : ℕ) (lent : List ℕ) where
           }
 
       -- it has no room
-      pub not_standing : (given.refusal ≡ 0 → ⊥)
-          → WritesReports numbers from lent (record { refusal = 1; reports = j; next = next }) then
-      not_standing some =
-          let p = is_not_placed w some in
+      pub not_standing : {e : _} → WritesReport report next left (Err e) then
+          → WritesReports numbers from lent (record { all = Err NoRoom; reports = j; next = next }) then
+      not_standing w =
+          let p = is_not_placed w in
           let none = none_fits report (drop (j + 1) (eights numbers)) next (length lent) (rw s.long at p.has) in
           record {
             reports = sym (s.count ∙ rw (is_next, none, add-zero));
-            refusal = rw (lt-ltb j (length numbers / 8) more);
+            all = rw (lt-ltb j (length numbers / 8) more);
             next = s.place;
             leaves = p.stays ∙ s.stands;
           }
 
   -- none is left
-  pub all_standing : {j next : ℕ} {left : List ℕ} → Standing j next left → length numbers / 8 ≤ j → {k : ℕ}
-      → k ≡ (eqb (length numbers % 8) 0 ⇒ 0 ∣ 2)
-      → WritesReports numbers from lent (record { refusal = k; reports = j; next = next }) left
-  all_standing {j} {next} {left} s all e =
+  pub all_standing : {j next : ℕ} {left : List ℕ} → Standing j next left → length numbers / 8 ≤ j
+      → {all : Result Unit Unwritten} → all ≡ (eqb (length numbers % 8) 0 ⇒ Ok tt ∣ Err Incomplete)
+      → WritesReports numbers from lent (record { all = all; reports = j; next = next }) left
+  all_standing {j} {next} {left} s none e =
       let past : length (eights numbers) ≤ j = omega (arith, length_eights (length numbers / 8) numbers) in
       record {
         reports = sym (s.count ∙ rw (drop_of_length-le (eights numbers) past, nothing_fits next (length lent), add-zero));
-        refusal = rw (le-ltb j (length numbers / 8) all) e;
+        all = rw (le-ltb j (length numbers / 8) none) e;
         next = s.place;
         leaves = s.stands;
       }
@@ -131,8 +133,8 @@ pub all_one : {numbers : List ℕ} {from : ℕ} {lent left left' : List ℕ} {gi
     → (given ≡ given') × (left ≡ left')
 all_one {numbers} {from} {lent} {given = given} {given' = given'} p q =
     let same : given.reports ≡ given'.reports = p.reports ∙ sym q.reports in
-    let refusal : given.refusal ≡ given'.refusal = p.refusal ∙ rw same (sym q.refusal) in
+    let all : given.all ≡ given'.all = p.all ∙ rw same (sym q.all) in
     let next : given.next ≡ given'.next = p.next ∙ rw same (sym q.next) in (
-      λ i. record { refusal = refusal i; reports = same i; next = next i },
+      λ i. record { all = all i; reports = same i; next = next i },
       p.leaves ∙ rw same (sym q.leaves),
     )

@@ -2,61 +2,31 @@
 -- only the step of a place tells so.
 use mathlib.Core.Path.{◌≡◌, refl, sym, ap, ◌∙◌}
 use mathlib.Core.List.{List, [], ◌∷◌, ◌++◌, append-nil, append_assoc}
-use Prim.Native.Nat.{ℕ, zero, suc, ◌+◌, ◌-◌, ◌^◌, ◌<◌, ◌≤◌}
+use Prim.Native.Nat.{ℕ, suc, ◌+◌, ◌-◌, ◌^◌, ◌<◌, ◌≤◌}
 use native.Mathlib.Nat.{add-zero, zero-add}
 use native.Mathlib.Omega.{arith}
 use lib.Dec.{ltb}
 use lib.ListN.{length, drop, length-append, length-drop}
-use lib.Seq.{drop_at, drop-drop, append_snoc}
+use lib.Seq.{append_snoc}
 use borrow.Author.Tests.{ltb-true, ltb-false}
 use Rattle.ground.specs.Lists.{join, along, All, all_nil, all_cons}
 use Rattle.ground.proofs.Booleans.{either}
+use Rattle.ground.proofs.Lists.{drop_behind}
 use Rattle.report.specs.declared.Report.{Report}
 use Rattle.eight.specs.Numbers.{values_of, report_of}
 use Rattle.eight.proofs.Numbers.{values_of_eight}
 use Rattle.groups.specs.Number.{value, fault, code, number_at}
-use Rattle.groups.specs.Relied.{Below, Shows, ends, padded, large}
-use Rattle.groups.proofs.Coded.{number_reads, scan_stood, code_some}
+use Rattle.groups.specs.Relied.{Below, NumberStands, Shows, ends, padded, large}
+use Rattle.groups.proofs.Coded.{number_reads, number_stands, code_some}
 use Rattle.groups.proofs.Faults.{scan_begun, begun_scans}
 use Rattle.logs.specs.declared.LogStep.{LogStep}
 use Rattle.logs.specs.Log.{coded, report_step, fault_step, after, takes, step_at}
 use Rattle.logs.specs.Relied.{Stands, Breaks, Tells, tells_report, tells_end, tells_fault}
 use Rattle.logs.proofs.Taking.{step_end, step_begins, takes_fault, takes_by}
 
-below_drop : {bound : ℕ} (xs : List ℕ) (n : ℕ) → Below bound xs → Below bound (drop n xs)
-below_drop [] zero h = h
-below_drop [] (suc n) h = h
-below_drop (x ∷ xs) zero h = h
-below_drop (x ∷ xs) (suc n) (all_cons low h) = below_drop xs n h
-
--- what stands behind the front of a part of a list
-pub behind : (xs front rest : List ℕ) (at m : ℕ) → drop at xs ≡ front ++ rest → m ≡ at + length front → drop m xs ≡ rest
-behind xs front rest at m e p =
-    ap (λ (x : ℕ). drop x xs) p
-    ∙ sym (drop-drop (length front) at xs)
-    ∙ ap (drop (length front)) e
-    ∙ drop_at front rest (length front) refl
-
 -- ---- what is taken stands there
 
-record NumberStands (log : List ℕ) (at n next : ℕ) : Type 0 where
-  fits : n < 2 ^ 32
-  bytes : drop at log ≡ code n ++ drop next log
-  place : next ≡ at + length (code n)
-
 module _ (log : List ℕ) (from : ℕ) (below : Below 256 log) where
-  number_stands : (at : ℕ) {n next : ℕ} → number_at log at ≡ value n next → NumberStands log at n next
-  number_stands at {n} {next} found =
-      let t = scan_stood (drop at log) 5 0 0 at refl (omega arith) (below_drop log at below) found in
-      let same : t.number ≡ n = omega (arith, t.sum) in
-      let bytes : drop at log ≡ code n ++ t.rest = rw same at t.stands in
-      let place : next ≡ at + length (code n) = rw same at t.place in
-      record {
-        fits = omega (arith, t.small);
-        bytes = bytes ∙ ap (λ (xs : List ℕ). code n ++ xs) (sym (behind log (code n) t.rest at next bytes place));
-        place = place;
-      }
-
   -- so many numbers, up to the next place
   record Run (count at : ℕ) (numbers : List ℕ) (next : ℕ) : Type 0 where
     long : length numbers ≡ count
@@ -74,7 +44,7 @@ module _ (log : List ℕ) (from : ℕ) (below : Below 256 log) where
   number_and {n = n} {numbers = numbers} s t = record {
     long = ap suc t.long;
     fits = all_cons s.fits t.fits;
-    bytes = s.bytes ∙ ap (λ (xs : List ℕ). code n ++ xs) t.bytes ∙ sym (append_assoc (code n) (along numbers code) _);
+    bytes = s.stands ∙ ap (λ (xs : List ℕ). code n ++ xs) t.bytes ∙ sym (append_assoc (code n) (along numbers code) _);
     place = t.place ∙ rw length-append (omega (arith, s.place));
   }
 
@@ -89,15 +59,15 @@ module _ (log : List ℕ) (from : ℕ) (below : Below 256 log) where
   one_more : (left : ℕ) (got : List ℕ) (at n next : ℕ) (s : LogStep) → number_at log at ≡ value n next
       → Rest left (got ++ n ∷ []) next s → Rest (suc left) got at s
   one_more left got at n next s found (whole {numbers} e run) =
-      whole (e ∙ ap report_of (append_snoc got n numbers)) (number_and (number_stands at found) run)
+      whole (e ∙ ap report_of (append_snoc got n numbers)) (number_and (number_stands below at found) run)
   one_more left got at n next s found (broken {count} few run topped bytes place shows) =
-      broken {count = suc count} (omega arith) (number_and (number_stands at found) run) topped bytes place shows
+      broken {count = suc count} (omega arith) (number_and (number_stands below at found) run) topped bytes place shows
 
   breaks_off : (left : ℕ) (got : List ℕ) (at k p : ℕ) → number_at log at ≡ fault k p
       → Rest (suc left) got at (fault_step k p from)
   breaks_off left got at k p found =
       let t = scan_begun (drop at log) 0 0 at (omega arith) found in
-      let rest = behind log t.begun t.rest at p t.bytes t.place in
+      let rest = drop_behind log t.begun t.rest at p t.bytes t.place in
       let shows = rw (zero-add (length t.begun)) at t.shows in
       broken {count = 0} {k = k} {p = p} (omega arith) (no_numbers at) t.topped (rw rest t.bytes) t.place
       (rw rest shows)
@@ -201,7 +171,7 @@ module _ (log : List ℕ) (from : ℕ) where
       let here : drop at log ≡ code n ++ (along ns code ++ bs) = e ∙ append_assoc (code n) (along ns code) bs in
       let found : number_at log at ≡ value n (at + length (code n)) = rw here
       (number_reads n at (along ns code ++ bs) small) in
-      let next = behind log (code n) (along ns code ++ bs) at (at + length (code n)) here refl in
+      let next = drop_behind log (code n) (along ns code ++ bs) at (at + length (code n)) here refl in
       let place : at + length (code n) + length (along ns code) ≡ at + length (code n ++ along ns code) =
       rw length-append (omega arith) in
       ap (λ (c : ℕ). takes log from c got at) one_more
@@ -230,7 +200,7 @@ tells_step {log} {at} (tells_fault {k} {p} b) =
     let done = length b.numbers in
     let last = at + length (along b.numbers code) in
     let bytes = b.bytes ∙ append_assoc (along b.numbers code) b.begun (drop p log) in
-    let here = behind log (along b.numbers code) (b.begun ++ drop p log) at last bytes refl in
+    let here = drop_behind log (along b.numbers code) (b.begun ++ drop p log) at last bytes refl in
     let place : last + length b.begun ≡ p = sym b.place in
     let found : number_at log last ≡ fault k p =
     rw here (begun_scans b.begun 0 0 last (omega arith) b.topped b.shows ∙ ap (fault k) place) in

@@ -11,18 +11,18 @@ use borrow.Author.Tests.{ltb-true, ltb-false}
 use Rattle.ground.specs.Unique.{Unique, UniqueLeft}
 use Rattle.ground.proofs.Booleans.{either}
 use Rattle.coding.proofs.Placed.{one_placing}
-use Rattle.logs.specs.declared.Answer.{Answer}
 use Rattle.logs.specs.declared.Contents.{Contents}
 use Rattle.logs.specs.declared.LogStep.{LogStep}
 use Rattle.logs.specs.declared.Reader.{Reader}
 use Rattle.logs.specs.declared.Taken.{Taken}
-use Rattle.logs.specs.Answer.{step_of, Starts, Steps, Holds}
+use Rattle.logs.specs.Answer.{Handed, step_of, Starts, Steps, Holds}
 use Rattle.logs.proofs.Answers.{one_answer, one_next, kind_report}
 use Rattle.logs.proofs.Several.{all_one}
 use Rattle.logs.proofs.taken_at.Reads as taken_at
 use Rattle.logs.proofs.reports_in.Reads as reports-in
+use Rattle.logs.proofs.LogStepFromTaken.from.Reads as from
 use Rattle.logs.proofs.step_at.Reads as step-at
-use Rattle.logs.proofs.write.Reads as write
+use Rattle.coding.proofs.write.Reads as write
 use Rattle.logs.proofs.write_all.Reads as write-all
 use Rattle.logs.proofs.Reader.new.Reads as reader-new
 use Rattle.logs.proofs.Reader.next.Reads as reader-next
@@ -35,6 +35,9 @@ one_taken {t} {u} e = λ i. record {
 
 pub taken_at_unique : Unique taken_at.Learnt
 taken_at_unique k a r r' e e' p q = one_taken (p ∙ sym q)
+
+pub from_unique : Unique from.Learnt
+from_unique k a r r' e e' p q = p ∙ sym q
 
 pub step_at_unique : Unique step-at.Learnt
 step_at_unique k a r r' e e' p q = p ∙ sym q
@@ -70,7 +73,7 @@ write_all_unique k a r r' e e' = all_one
 pub new_unique : {log : Bor (List ℕ)} {r r' : Reader} → Starts log r → Starts log r' → r ≡ r'
 new_unique p q = λ i. record { log = (p.holds ∙ sym q.holds) i; at = (p.front ∙ sym q.front) i }
 
-pub next_unique : {was is is' : Reader} {a a' : Answer} → Steps was a is → Steps was a' is' → (a ≡ a') × (is ≡ is')
+pub next_unique : {was is is' : Reader} {a a' : Handed} → Steps was a is → Steps was a' is' → (a ≡ a') × (is ≡ is')
 next_unique {is = is} {is' = is'} {a = a} {a' = a'} p q =
     let same = p.gives ∙ sym q.gives in
     let place = one_next is.at is'.at a a' same in

@@ -1,6 +1,6 @@
 -- What can be relied on of every log: what a step tells of its bytes, which reports are handed out, what a reader's calls
 -- give, and how reports that were written read back.
-use Rattle.std.specs.Prelude.{◌≡◌, List, [], ◌∷◌, ◌++◌, ℕ, ◌+◌, ◌^◌, ◌<◌, ◌≤◌, eqb, length, drop}
+use Rattle.std.specs.Prelude.{◌≡◌, List, [], ◌∷◌, ◌++◌, ℕ, ◌+◌, ◌^◌, ◌<◌, ◌≤◌, eqb, length, drop, Ok}
 use Rattle.ground.specs.Cases.{◌⇒◌∣◌}
 use Rattle.ground.specs.Lists.{along, All}
 use Rattle.ground.specs.Lent.{laid}
@@ -8,12 +8,11 @@ use Rattle.report.specs.declared.Report.{Report}
 use Rattle.eight.specs.Numbers.{values_of}
 use Rattle.groups.specs.Number.{code}
 use Rattle.groups.specs.Relied.{Below, Shows}
-use Rattle.logs.specs.declared.Answer.{Answer}
 use Rattle.logs.specs.declared.LogStep.{LogStep}
 use Rattle.logs.specs.declared.Reader.{Reader}
 use Rattle.logs.specs.declared.ReportsWritten.{ReportsWritten}
 use Rattle.logs.specs.Log.{coded, report_step, end_step, fault_step, step_at}
-use Rattle.logs.specs.Answer.{Steps}
+use Rattle.logs.specs.Answer.{Handed, Steps}
 
 -- ---- one step
 
@@ -67,9 +66,9 @@ AllFit [] = Unit {0}
 AllFit (r ∷ rs) = Below (2 ^ 32) (values_of r) × AllFit rs
 
 -- calls of a reader, one after the other, and what they answer
-pub data Runs : Reader → List Answer → Reader → Type 0 where
+pub data Runs : Reader → List Handed → Reader → Type 0 where
   no_call : {r : Reader} → Runs r [] r
-  call_and : {was is then : Reader} {a : Answer} {more : List Answer} → Steps was a is → Runs is more then
+  call_and : {was is then : Reader} {a : Handed} {more : List Handed} → Steps was a is → Runs is more then
       → Runs was (a ∷ more) then
 
 -- ---- reports that were written
@@ -87,7 +86,7 @@ pub record ReadsBack (lent left : List ℕ) (from : ℕ) (rs : List Report) (nex
 
 -- a log stands in a buffer from a place on, all of its reports were written, and all else is as lent
 pub record SameAgain (log : List ℕ) (rs : List Report) (from : ℕ) (lent : List ℕ) (given : ReportsWritten) (left : List ℕ) : Type 0 where
-  pub refusal : given.refusal ≡ 0
+  pub all : given.all ≡ Ok tt
   pub reports : given.reports ≡ length rs
   pub next : given.next ≡ from + length log
   pub leaves : left ≡ laid log from lent

@@ -1,24 +1,17 @@
 // A log of reports: a plain run of numbers, eight to a report, each in groups of seven bits.
 #![tactic(auto)]
 
-ghost use Rattle.std.specs.Prelude.{◌≡◌, ◌+◌, ◌≤◌, length, drop};
-ghost use Rattle.eight.specs.Numbers.{report_of};
-ghost use Rattle.coding.specs.Coding.{WritesReport};
-ghost use Rattle.logs.specs.Log.{step_at};
-ghost use Rattle.logs.specs.Answer.{is_report, step_of, Starts, Steps, Holds};
+ghost use Rattle.std.specs.Prelude.{◌≡◌, ℕ, []};
+ghost use Rattle.logs.specs.Log.{takes, step_at};
+ghost use Rattle.logs.specs.Answer.{step_of, read_step, Starts, Steps, Holds};
 ghost use Rattle.logs.specs.Writing.{WritesReports};
 
-use coding::LogWritten;
-use groups::{Fault, Parsed};
+pub use coding::{NoRoom, write};
+use groups::Fault;
 use report::Report;
 
-// What a reader hands out: a report, the end, which stands between reports only, or what is wrong.
-#[derive(Clone, Copy)]
-pub enum Answer {
-    Read(Report),
-    End,
-    Faulty(Fault),
-}
+// What a reader hands out: a report, or none at the end, which stands between reports only; or what is wrong.
+pub type Answer = Result<Option<Report>, Fault>;
 
 // An answer, and the place from which the next is read: after a report behind it, otherwise the same.
 #[derive(Clone, Copy)]
@@ -48,6 +41,7 @@ pub struct Contents {
 #[repr(C)]
 #[derive(Clone, Copy)]
 pub struct LogStep {
+    // numbers, since C reads them
     pub kind: u32,
     pub fault: u32,
     pub place: u64,
@@ -55,15 +49,63 @@ pub struct LogStep {
     pub report: Report,
 }
 
-// What is given where several reports are to be written: how many were, and the place behind the last of them. refusal is 0
-// where these are all, 1 where there is no room for the whole of the next, and 2 where none is left, but some numbers are,
-// fewer than the eight of a report.
-#[repr(C)]
-#[derive(Clone, Copy)]
+impl From<Taken> for LogStep {
+    ghost from_gives = { λ t s. s ≡ step_of t.answer t.next };
+
+    fn from(t: Taken) -> LogStep {
+        let end = LogStep {
+            kind: 1,
+            fault: 0,
+            place: 0,
+            next: t.next as u64,
+            report: eight::report_of([0; 8]),
+        };
+        match t.answer {
+            Ok(Some(report)) => LogStep {
+                kind: 0,
+                report,
+                ..end
+            },
+            Ok(None) => end,
+            Err(fault) => LogStep {
+                kind: 2,
+                fault: fault.number(),
+                place: fault.place as u64,
+                ..end
+            },
+        }
+    }
+}
+
+// Why some of the numbers of several reports are not written, each case by a number.
+#[derive(Clone, Copy, PartialEq, Eq)]
+pub enum Unwritten {
+    // There is no room for the whole of the next report.
+    NoRoom = 1,
+    // They are fewer than the eight of a report.
+    Incomplete = 2,
+}
+
+// What is given where several reports are to be written: how many were, the place behind the last of them, and whether these
+// are all.
+#[derive(Clone, Copy, PartialEq, Eq)]
 pub struct ReportsWritten {
-    pub refusal: u32,
-    pub reports: u64,
-    pub next: u64,
+    pub reports: usize,
+    pub next: usize,
+    pub all: Result<(), Unwritten>,
+}
+
+// Reads the eight numbers of a report from a place on. The place moves behind each number that is read.
+fn report_from(log: &[u8], at: &mut usize) -> Result<Report, Fault>
+    ensures { (from : ℕ) → takes log.now from 8 [] at.old ≡ read_step result at.new from }
+{
+    let mut values = [0; 8];
+    for value in &mut values {
+        let number = groups::number_at(log, *at)?;
+        *value = number.value;
+        *at = number.next;
+    }
+    Ok(eight::report_of(values))
 }
 
 // Reads what stands at a place of a log: a report, the end, which is given at the log's length and at any place past it, or
@@ -72,33 +114,22 @@ pub struct ReportsWritten {
 pub fn taken_at(log: &[u8], from: usize) -> Taken
     ensures { step_of result.answer result.next ≡ step_at log.now from }
 {
+    let mut next = from;
     if log.len() <= from {
         return Taken {
-            answer: Answer::End,
-            next: from,
+            answer: Ok(None),
+            next,
         };
     }
-    let mut values = [0; 8];
-    let mut at = from;
-    let mut j = 0;
-    while j < 8 {
-        match groups::number_at(log, at) {
-            Parsed::Number(value, next) => {
-                values[j] = value;
-                at = next;
-                j += 1;
-            }
-            Parsed::Broken(fault) => {
-                return Taken {
-                    answer: Answer::Faulty(fault),
-                    next: from,
-                };
-            }
-        }
-    }
-    Taken {
-        answer: Answer::Read(eight::report_of(values)),
-        next: at,
+    match report_from(log, &mut next) {
+        Ok(report) => Taken {
+            answer: Ok(Some(report)),
+            next,
+        },
+        Err(fault) => Taken {
+            answer: Err(fault),
+            next: from,
+        },
     }
 }
 
@@ -111,7 +142,7 @@ impl<'a> Reader<'a> {
     }
 
     // Hands out the next answer. After a report the reader stands behind it. At the end and at a fault it stays, so that
-    // every further call gives the same.
+    // every further call gives the same. So it is no `Iterator`: after a fault there is no last item.
     pub fn next(&mut self) -> Answer
         ensures { Steps self.old result self.new }
     {
@@ -121,25 +152,14 @@ impl<'a> Reader<'a> {
     }
 }
 
-// Whether what is taken is a report.
-fn is_report(t: Taken) -> bool
-    ensures { result ≡ is_report t.answer }
-{
-    let answer = t.answer;
-    match answer {
-        Answer::Read(_) => true,
-        Answer::End => false,
-        Answer::Faulty(_) => false,
-    }
-}
-
-// Reads a whole log: how many reports stand before its end or its first fault, and which of both it was.
+// Reads a whole log: how many reports stand before its end or its first fault, and which of both it was. A step says where
+// the next one starts, so that no index is counted.
 pub fn reports_in(log: &[u8]) -> Contents
     ensures { Holds log.now result }
 {
     let mut reports = 0;
     let mut last = taken_at(log, 0);
-    while is_report(last) {
+    while let Ok(Some(_)) = last.answer {
         last = taken_at(log, last.next);
         reports += 1;
     }
@@ -150,84 +170,35 @@ pub fn reports_in(log: &[u8]) -> Contents
 pub fn step_at(log: &[u8], from: usize) -> LogStep
     ensures { result ≡ step_at log.now from }
 {
-    let t = taken_at(log, from);
-    let next = t.next as u64;
-    let answer = t.answer;
-    let none = eight::report_of([0; 8]);
-    match answer {
-        Answer::Read(r) => LogStep {
-            kind: 0,
-            fault: 0,
-            place: 0,
-            next,
-            report: r,
-        },
-        Answer::End => LogStep {
-            kind: 1,
-            fault: 0,
-            place: 0,
-            next,
-            report: none,
-        },
-        Answer::Faulty(f) => LogStep {
-            kind: 2,
-            fault: f.number(),
-            place: f.place() as u64,
-            next,
-            report: none,
-        },
-    }
-}
-
-// Writes a report into a lent buffer from a place on, where there is room for the whole of it, and gives the place behind
-// it; all other bytes stay. Otherwise, a start past the end among it, the refusal is 1 and every byte stays. Any eight
-// numbers are written, and `taken_at` reads them back.
-pub fn write(r: Report, out: &mut [u8], from: usize) -> LogWritten
-    ensures { WritesReport r from out.old result out.new }
-{
-    coding::write(r, out, from)
-}
-
-// The report of the eight numbers from a place on.
-fn report_at(numbers: &[u32], i: usize) -> Report
-    requires { i + 8 ≤ length numbers.now }
-    ensures { result ≡ report_of (drop i numbers.now) }
-{
-    let mut values = [0; 8];
-    let mut j = 0;
-    while j < 8 {
-        values[j] = numbers[i + j];
-        j += 1;
-    }
-    eight::report_of(values)
+    LogStep::from(taken_at(log, from))
 }
 
 // Writes reports, eight numbers each, one after the other into a lent buffer from a place on, up to the first that has no
 // room: nothing of that one is written, and those before it stand. Where fewer than eight numbers are left after the last
-// report the refusal is 2. Without numbers nothing is written and nothing refused, wherever the start is.
+// report, that is said. Without numbers nothing is written and nothing refused, wherever the start is.
 pub fn write_all(numbers: &[u32], out: &mut [u8], from: usize) -> ReportsWritten
     ensures { WritesReports numbers.now from out.old result out.new }
 {
-    let mut reports = 0;
+    let (eights, left) = numbers.as_chunks::<8>();
     let mut next = from;
-    let mut i = 0;
-    while 8 <= numbers.len() - i {
-        let w = coding::write(report_at(numbers, i), out, next);
-        if w.refusal != 0 {
+    for (reports, values) in eights.iter().enumerate() {
+        let Ok(place) = write(eight::report_of(*values), out, next) else {
             return ReportsWritten {
-                refusal: 1,
                 reports,
-                next: next as u64,
+                next,
+                all: Err(Unwritten::NoRoom),
             };
-        }
-        next = w.next as usize;
-        reports += 1;
-        i += 8;
+        };
+        next = place;
     }
-    let refusal = if i < numbers.len() { 2 } else { 0 };
+    let all = if left.is_empty() {
+        Ok(())
+    } else {
+        Err(Unwritten::Incomplete)
+    };
     ReportsWritten {
-        refusal,
-        reports,
-        next: next as u64,
+        reports: eights.len(),
+        next,
+        all,
     }
 }

@@ -2,16 +2,16 @@
 use mathlib.Core.Path.{◌≡◌, sym, ap, ◌∙◌, subst}
 use mathlib.Core.Bool.{Bool, ◌&&◌}
 use mathlib.Core.List.{zip_with}
-use Prim.Native.Nat.{ℕ, ◌/◌, ◌%◌, ◌^◌, ◌<◌, ◌≤◌}
+use Prim.Native.Nat.{ℕ, ◌/◌, ◌%◌, ◌^◌}
 use native.Mathlib.Omega.{arith}
 use lib.Dec.{T, ltb, ltb→lt}
-use lib.IntN.{ℤ, pos, ◌-ℤ◌}
+use lib.IntN.{ℤ}
 use lib.ListN.{get_or-eq_default}
 use lib.Signed.{mag}
-use mir.Syntax.{w16, w32}
+use mir.Syntax.{w16}
 use mir.Val.{SFits, hbits, to_z, of_z}
 use mir.Facts.{to_z-of_z, Fits-of_z, sfits_lit}
-use borrow.Author.Tests.{lt-ltb, le-ltb, ltb-true, ltb-false}
+use borrow.Author.Tests.{ltb-true, ltb-false}
 use Rattle.ground.specs.Lists.{every}
 use Rattle.ground.proofs.Booleans.{either}
 use Rattle.ground.proofs.Tests.{and_left, and_right, every_at}
@@ -19,11 +19,6 @@ use Rattle.turn.specs.Phase.{turn}
 use Rattle.weight.specs.declared.Weight.{Weight}
 use Rattle.weight.specs.Table.{first_quarter, first_half, xs, ys, table, no_weight, entry}
 use Rattle.lookup.specs.Packed.{packed}
-
--- ---- a number from 2^15 on, read with a sign, is the number less 2^16
-
-pub less_whole : (n : ℕ) → 32768 ≤ n → n < 65536 → to_z w32 n -ℤ pos 65536 ≡ to_z w16 n
-less_whole n h k = rw (lt-ltb n (2 ^ hbits w32) (omega arith), lt-ltb n 65536 k, le-ltb n 32768 h)
 
 -- ---- every number of the table has 16 bits
 

@@ -1,9 +1,7 @@
 // The table of weights in code: a pair of 16-bit numbers for each phase.
 #![tactic(auto)]
 
-ghost use Rattle.std.specs.Prelude.{◌≡◌, ◌%◌, ◌<◌};
-ghost use Rattle.std.specs.Int.{w16};
-ghost use Rattle.std.proofs.Common.{to_z};
+ghost use Rattle.std.specs.Prelude.{◌≡◌, ◌%◌};
 ghost use Rattle.weight.specs.Table.{entry};
 ghost use Rattle.lookup.specs.Packed.{packed};
 
@@ -533,24 +531,13 @@ fn pair_at(e: Part) -> u32
     }
 }
 
-// A number below 2^16, read as one with a sign.
-fn signed(n: u32) -> i16
-    requires { n < 65536 }
-    ensures { result ≡ to_z w16 n }
-{
-    if n < 32768 {
-        return n as i16;
-    }
-    (n as i32 - 65536) as i16
-}
-
 // The weight of a phase: `weight_at(TURN / 4)` is 0, 16384. Of a number that is no phase nine bits are read, and 0, 0 is
 // given where these are a turn or more.
 pub fn weight_at(e: Part) -> Weight
     ensures { result ≡ entry (e % 512) }
 {
     let pair = pair_at(e);
-    let x = signed(pair % 65536);
-    let y = signed(pair / 65536);
-    Weight { x: x, y: y }
+    let x = ((pair % 65536) as u16).cast_signed();
+    let y = ((pair / 65536) as u16).cast_signed();
+    Weight { x, y }
 }

@@ -1,4 +1,4 @@
--- The bits of beams, the number that is given, and what it is to any codebook.
+-- The bits of beams, what is given, and what it is to any codebook.
 pub mod Bits
 pub mod Given
 pub mod Refused

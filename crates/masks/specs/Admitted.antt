@@ -1,58 +1,41 @@
 -- The shared refusals among a codebook's own: 3 stands after 1 and 2, 5 after 4, and 10, 13 and 11 stand last.
-use Rattle.std.specs.Prelude.{not, ◌||◌, List, [], ◌∷◌, ℕ, ◌+◌, ◌*◌, eqb, ltb, length, get_or, take, drop}
+use Rattle.std.specs.Prelude.{Bool, false, not, ◌||◌, List, map, ℕ, ◌+◌, ◌*◌, eqb, ltb, length, Result, Ok, Err}
 use Rattle.ground.specs.Cases.{◌⇒◌∣◌}
 use Rattle.offsets.specs.Offsets.{unfit}
-use Rattle.plan.specs.Masks.{is_zero, barred, rank_barred}
+use Rattle.turn.specs.declared.Beam.{Beam}
+use Rattle.refusal.specs.declared.Refusal.{Refusal}
+use Rattle.refusal.specs.Outcome.{refused, outcome}
+use Rattle.plan.specs.Masks.{barred, rank_barred}
 use Rattle.masks.specs.declared.Needs.{Needs}
 
--- the bits of one to four beams, in a mask of so many bits for each l
-unfoldable pub bits_of : ℕ → ℕ → List ℕ → List ℕ → List ℕ
-bits_of n width l m =
-    let bit : ℕ → ℕ = λ i. width * get_or l i 0 + get_or m i 0 in
-    bit 0 ∷ drop 1 (take n (bit 0 ∷ bit 1 ∷ bit 2 ∷ bit 3 ∷ []))
+-- the bits of beams, in a mask of so many bits for each l
+unfoldable pub bits_of : ℕ → List Beam → List ℕ
+bits_of width xs = map (λ x. width * x.l + x.m) xs
 
--- what is tried before the bits: the number of the refusal, or 0
-unfoldable pub before_bits : Needs → ℕ → ℕ → ℕ
+-- a refusal of this number
+abbrev pub is_refused : ℕ → Result Unit Refusal → Bool
+is_refused n (Ok _) = false
+is_refused n (Err k) = eqb k.number n
+
+-- the first refusal of two outcomes
+abbrev pub then : Result Unit Refusal → Result Unit Refusal → Result Unit Refusal
+then (Ok _) y = y
+then (Err k) y = Err k
+
+-- what is tried before the bits
+unfoldable pub before_bits : Needs → ℕ → ℕ → Result Unit Refusal
 before_bits x bytes ranks =
-    eqb x.refusal 1 || eqb x.refusal 2 ⇒ x.refusal
-    ∣ not (eqb bytes x.bytes) ⇒ 3
-    ∣ eqb x.refusal 4 ⇒ 4
-    ∣ rank_barred ranks x.v ⇒ 5
-    ∣ x.refusal
+    is_refused 1 x.own || is_refused 2 x.own ⇒ x.own
+    ∣ not (eqb bytes x.bytes) ⇒ Err (refused 3)
+    ∣ is_refused 4 x.own ⇒ x.own
+    ∣ rank_barred ranks x.v ⇒ Err (refused 5)
+    ∣ x.own
 
--- and up to the bit of the first beam
-unfoldable pub up_to_first : Needs → List ℕ → ℕ → ℕ
-up_to_first x mask ranks =
-    not (eqb (before_bits x (length mask) ranks) 0) ⇒ before_bits x (length mask) ranks
-    ∣ is_zero mask (x.width * get_or x.l 0 0 + get_or x.m 0 0) ⇒ 10
-    ∣ 0
-
--- the number of the refusal, or 0
-unfoldable pub admitted : Needs → List ℕ → ℕ → List ℕ → ℕ → ℕ
+-- the first refusal that applies
+unfoldable pub admitted : Needs → List ℕ → ℕ → List ℕ → ℕ → Result Unit Refusal
 admitted x mask ranks offsets room =
-    not (eqb (before_bits x (length mask) ranks) 0) ⇒ before_bits x (length mask) ranks
-    ∣ barred mask (bits_of x.count x.width x.l x.m) ⇒ 10
+    then (before_bits x (length mask) ranks) (outcome (
+    barred mask (bits_of x.width x.beams.now) ⇒ 10
     ∣ unfit x.ports offsets ⇒ 13
     ∣ ltb room x.entries ⇒ 11
-    ∣ 0
-
--- the same of so many beams
-abbrev pub counting : ℕ → Needs → Needs
-counting n x = record {
-  refusal = x.refusal;
-  bytes = x.bytes;
-  v = x.v;
-  ports = x.ports;
-  entries = x.entries;
-  count = n;
-  width = x.width;
-  l = x.l;
-  m = x.m;
-}
-
--- of at most two, and of three
-abbrev pub up_to_two : Needs → Needs
-up_to_two x = counting (ltb 1 x.count ⇒ 2 ∣ x.count) x
-
-abbrev pub of_three : Needs → Needs
-of_three x = counting 3 x
+    ∣ 0))

@@ -1,7 +1,8 @@
 -- What a codebook hands over of a report, for the shared refusals to be tried among its own.
-use Rattle.std.specs.Prelude.{◌≡◌, Bool, ◌&&◌, List, [], ◌∷◌, ◌++◌, ℕ, ◌*◌, T, ltb}
+use Rattle.std.specs.Prelude.{◌≡◌, Bool, ◌&&◌, List, [], ◌∷◌, ◌++◌, ℕ, ◌*◌, T, ltb, Ok, Err}
 use Rattle.ground.specs.Lists.{each}
 use Rattle.ground.specs.First.{first}
+use Rattle.refusal.specs.Outcome.{refused, outcome}
 use Rattle.plan.specs.Answer.{Codebook, own}
 use Rattle.masks.specs.declared.Needs.{Needs}
 use Rattle.masks.specs.Admitted.{bits_of}
@@ -15,9 +16,9 @@ late k = ltb 5 k && own k
 pub record Asks {R : Type 0} (b : Codebook R) (r : R) (rest : List ℕ) (x : Needs) : Type 0 where
   pub order_is : b.order ≡ 1 ∷ 2 ∷ 3 ∷ 4 ∷ 5 ∷ (rest ++ (10 ∷ 13 ∷ 11 ∷ []))
   pub rest_late : T (each late rest)
-  pub refusal_is : x.refusal ≡ first (b.rule r) (1 ∷ 2 ∷ 4 ∷ rest)
-  pub bytes_are : (x.refusal ≡ 1 → ⊥) → (x.refusal ≡ 2 → ⊥) → x.bytes ≡ b.mask_bytes r
+  pub own_is : x.own ≡ outcome (first (b.rule r) (1 ∷ 2 ∷ 4 ∷ rest))
+  pub bytes_are : (x.own ≡ Err (refused 1) → ⊥) → (x.own ≡ Err (refused 2) → ⊥) → x.bytes ≡ b.mask_bytes r
   pub layers_are : x.v ≡ (b.plan r).v
-  pub bits_are : x.refusal ≡ 0 → bits_of x.count x.width x.l x.m ≡ b.bits_read r
-  pub ports_are : x.refusal ≡ 0 → x.ports ≡ (b.plan r).ports
-  pub entries_are : x.refusal ≡ 0 → x.entries ≡ (b.plan r).v * (b.plan r).ports
+  pub bits_are : x.own ≡ Ok tt → bits_of x.width x.beams.now ≡ b.bits_read r
+  pub ports_are : x.own ≡ Ok tt → x.ports ≡ (b.plan r).ports
+  pub entries_are : x.own ≡ Ok tt → x.entries ≡ (b.plan r).v * (b.plan r).ports

@@ -8,9 +8,9 @@ use native.Mathlib.Omega.{arith}
 use lib.Dec.{T, eqb, eqb→eq}
 use lib.ListN.{length, get_or, length-map}
 use borrow.Author.Tests.{eqb-true, eqb-false}
+use Rattle.std.proofs.lemmas.List.{get_or-map}
 use Rattle.ground.specs.Lists.{every, all_nil, all_cons}
 use Rattle.ground.proofs.Booleans.{either, cond_both}
-use Rattle.ground.proofs.Lists.{map_at}
 use Rattle.ground.proofs.Tests.{every_at}
 use Rattle.turn.specs.declared.Beam.{Beam}
 use Rattle.turn.specs.Phase.{half, eighth, phase}
@@ -124,7 +124,7 @@ module _ (r : PanelReport) (h : InRange r) where
   length_layers = length-map (columns r.v) (layer_of r) ∙ length_rank
 
   pub layer_is : (j : ℕ) → j < r.v → layer_at (plan r) j ≡ layer_of r (column r.v j)
-  layer_is j k = map_at (layer_of r) (columns r.v) j (W¹ B) _ (omega (arith, length_rank))
+  layer_is j k = get_or-map (layer_of r) (columns r.v) j (W¹ B) _ (omega (arith, length_rank))
 
   -- its beams lie within the setting, and B is (i11,i12)
   pub within : (x : Name) → ((reached r x).l < across r.n1) × ((reached r x).m < down r.n2)

@@ -8,9 +8,10 @@ use native.Mathlib.Omega.{arith}
 use lib.Dec.{T, eqb, leb, ltb, eqb→eq}
 use lib.ListN.{get_or}
 use borrow.Author.Tests.{not-true, not-false, leb-false, ltb-false, eqb-false, lt-leb}
+use Rattle.std.proofs.lemmas.Bool.{or_parts}
 use Rattle.ground.specs.Lists.{among}
 use Rattle.ground.specs.First.{first, numbered, None}
-use Rattle.ground.proofs.Booleans.{cond_both, or_false}
+use Rattle.ground.proofs.Booleans.{cond_both}
 use Rattle.ground.proofs.First.{first_none}
 use Rattle.ground.proofs.Tests.{or_cases, and_right}
 use Rattle.multi.specs.declared.PanelReport.{PanelReport}
@@ -61,8 +62,8 @@ module _ (values given : List ℕ) (e : outside values given ≡ false) where
   unfolding outside
   within =
       let out : ℕ → Bool = λ i. leb (get_or values i 0) (get_or given i 0) in
-      let two = or_false (out 0 || out 1) (out 2) e in
-      let one = or_false (out 0) (out 1) two.0 in
+      let two = or_parts (out 0 || out 1) (out 2) e in
+      let one = or_parts (out 0) (out 1) two.0 in
       (leb-false _ _ one.0, leb-false _ _ one.1, leb-false _ _ two.1)
 
 module _ (r : PanelReport) (h : InRange r) where
@@ -72,12 +73,12 @@ module _ (r : PanelReport) (h : InRange r) where
   pub v_some : 1 ≤ r.v
   unfolding rank_fits
   v_some =
-      let z = eqb-false r.v 0 (or_false (eqb r.v 0) (ltb 4 r.v) (not-true _ h.rank)).0 in
+      let z = eqb-false r.v 0 (or_parts (eqb r.v 0) (ltb 4 r.v) (not-true _ h.rank)).0 in
       omega arith
 
   pub v_few : r.v ≤ 4
   unfolding rank_fits
-  v_few = ltb-false 4 r.v (or_false (eqb r.v 0) (ltb 4 r.v) (not-true _ h.rank)).1
+  v_few = ltb-false 4 r.v (or_parts (eqb r.v 0) (ltb 4 r.v) (not-true _ h.rank)).1
 
   -- mode 2 has two panels, and where there are not two there are four
   pub mode_two_lem : r.mode ≡ 2 → r.ng ≡ 2

@@ -1,4 +1,5 @@
 -- Laws of the multi-panel codebook, the demands, and the worked reports.
+pub mod Parts
 pub mod Known
 pub mod InRange
 pub mod Rows

@@ -1,21 +1,22 @@
 -- The row of k for i13, at every setting, rank and place: no step is far, and at three and four layers it is that which one
 -- panel has for as many rows and columns of antennas.
 use mathlib.Core.Path.{◌≡◌, refl, ap₂}
-use mathlib.Core.Bool.{Bool, ◌&&◌, ◌||◌}
+use mathlib.Core.Bool.{Bool, cond, ◌&&◌, ◌||◌}
 use mathlib.Core.List.{[], ◌∷◌}
 use Prim.Native.Nat.{ℕ, zero, suc, ◌≤◌}
 use native.Mathlib.Omega.{arith}
 use lib.Dec.{eqb, leb, ltb}
 use lib.ListN.{length, get_or}
-use borrow.Author.Tests.{eq-eqb, le-ltb}
+use borrow.Author.Tests.{eq-eqb, le-ltb, eqb-true, eqb-false}
 use Rattle.ground.specs.Lists.{each, every}
+use Rattle.ground.proofs.Booleans.{either}
 use Rattle.ground.proofs.Tests.{and_left, and_right, or_else, two_le, two_eq, every_at}
 use Rattle.turn.specs.declared.Beam.{Beam}
 use Rattle.settings.specs.Ranges.{beam, k_two, k_three}
 use Rattle.multi.specs.declared.PanelReport.{PanelReport}
 use Rattle.multi.specs.Panels.{panel_settings, k_three_four, panel_rows, k_of, InRange}
 use Rattle.multi.proofs.Known.{at_panels}
-use Rattle.multi.proofs.InRange.{v_few}
+use Rattle.multi.proofs.InRange.{v_some, v_few}
 
 row : ℕ → ℕ → ℕ → ℕ → Beam
 row n1 n2 v i = get_or (panel_rows n1 n2 v) i (beam 0 0)
@@ -65,9 +66,16 @@ row_right r h =
     }
 
 -- two layers have the table of one panel
-pub row_of_two : (r : PanelReport) → r.v ≡ 2 → get_or (k_two r.n1 r.n2) r.i13 (beam 0 0) ≡ k_of r
+of_two : (r : PanelReport) → r.v ≡ 2 → get_or (k_two r.n1 r.n2) r.i13 (beam 0 0) ≡ k_of r
 unfolding panel_rows
-row_of_two r two = rw two
+of_two r two = rw two
+
+-- from two layers on the row is that of one panel
+pub row_of_more : (r : PanelReport) → InRange r → (r.v ≡ 1 → ⊥)
+    → get_or (cond (eqb r.v 2) (k_two r.n1 r.n2) (k_three r.n1 r.n2)) r.i13 (beam 0 0) ≡ k_of r
+row_of_more r h more =
+    either (eqb r.v 2) (λ e. rw e (of_two r (eqb-true r.v 2 e)))
+    (λ e. rw e ((row_right r h).of_more (omega (arith, v_some r h, more, eqb-false r.v 2 e))))
 
 -- and one layer has no row
 none : (i : ℕ) → get_or (beam 0 0 ∷ []) i (beam 0 0) ≡ beam 0 0

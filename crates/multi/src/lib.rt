@@ -2,9 +2,10 @@
 #![tactic(auto)]
 
 ghost use Rattle.std.specs.Prelude.{◌≡◌};
+ghost use Rattle.settings.specs.Settings.{sizes_of};
 ghost use Rattle.multi.specs.Own.{own_of};
 
-use settings::Sizes;
+use settings::{Refused, Sizes};
 use turn::Beam;
 
 mod beams;
@@ -27,33 +28,32 @@ pub struct PanelReport {
     pub i2: [u32; 3],
 }
 
-// What a report's own numbers say: the first of 1, 2, 4, 6 to 8, 12 and 9 that applies, and else 0; what one panel has,
-// zeros where (N1,N2) is no panel's; and where it is 0, B', reduced.
+// What a report's own numbers say: what one panel has, and B and B', reduced.
 #[derive(Clone, Copy)]
 pub struct Own {
-    pub refusal: u32,
     pub sizes: Sizes,
-    pub other: Beam,
+    pub beams: [Beam; 2],
 }
 
-// Judges a report by its own numbers. (2,2,1) with mode 1, two layers, i11 = 7, i13 = 1 and the rest 0 has panels of 4
-// ports and the beam (3,0) beside (7,0).
-pub fn own_of(r: PanelReport) -> Own
-    ensures { result ≡ own_of r }
+// A report, and what one of its panels has, zeros where (N1,N2) is no panel's.
+#[derive(Clone, Copy)]
+struct Measured {
+    report: PanelReport,
+    sizes: Sizes,
+    ghost right: { sizes ≡ sizes_of report.n1 report.n2 },
+}
+
+// Judges a report by its own numbers, and gives its beams where they are in range; otherwise the first of 1, 2, 4, 6 to 8,
+// 12 and 9 that applies, and what (N1,N2) has. (2,2,1) with mode 1, two layers, i11 = 7, i13 = 1 and the rest 0 has panels
+// of 4 ports and the beams (7,0) and (3,0).
+pub fn own_of(report: PanelReport) -> Result<Own, Refused>
+    ensures { result ≡ own_of report }
 {
-    let s = settings::sizes_of(r.n1, r.n2);
-    let k = rules::refusal(r, s);
-    if k != 0 {
-        return Own {
-            refusal: k,
-            sizes: s,
-            other: Beam { l: 0, m: 0 },
-        };
-    }
-    let other = beams::second_beam(r, s);
-    Own {
-        refusal: 0,
-        sizes: s,
-        other: other,
-    }
+    let sizes = settings::sizes_of(report.n1, report.n2).unwrap_or_default();
+    let x = Measured { report, sizes };
+    x.refusal().map_err(|refusal| Refused { refusal, sizes })?;
+    Ok(Own {
+        sizes,
+        beams: x.beams(),
+    })
 }

@@ -2,51 +2,25 @@
 -- offsets themselves.
 use mathlib.Core.Path.{◌≡◌, refl, sym, ap, ◌∙◌}
 use mathlib.Core.List.{List, map}
-use Prim.Native.Nat.{ℕ, ◌+◌, ◌<◌, ◌≤◌}
+use Prim.Native.Nat.{ℕ, ◌+◌, ◌<◌, ◌≤◌, min}
 use native.Mathlib.Nat.{mod-lt}
 use native.Mathlib.Numerals.{add-one}
 use native.Mathlib.Omega.{arith}
-use lib.Dec.{lit<, leb, ltb}
+use lib.Dec.{lit<, ltb}
 use lib.ListN.{length, take, get_or, set, replicate, length-map, get_or-eq_default, get_or-map}
-use lib.Seq.{get_or-take, take_all, ext_get_or}
-use borrow.Author.Tests.{leb-true, leb-false, ltb-true, ltb-false}
-use Rattle.ground.specs.Cases.{◌⇒◌∣◌}
+use lib.Seq.{get_or-take, ext_get_or}
+use Rattle.std.proofs.lemmas.List.{length-take, take_min, take-map}
+use borrow.Author.Tests.{ltb-true, ltb-false}
 use Rattle.ground.specs.Lists.{places, All}
 use Rattle.ground.proofs.All.{all_at}
 use Rattle.ground.proofs.Booleans.{either}
-use Rattle.ground.proofs.Lists.{take_map, length_places, places_at, places_next}
+use Rattle.ground.proofs.Lists.{length_places, places_at, places_next}
 use Rattle.turn.specs.Phase.{turn, phase}
 use Rattle.offsets.specs.Offsets.{fed, reduced, Low}
 use Rattle.offsets.proofs.Fed.{length_fed, fed_phase}
 
 module _ (offsets : List ℕ) where
   -- ---- one after the other
-
-  -- how many are read, of the offsets that there are
-  pub record Few (n : ℕ) : Type 0 where
-    pub at_most : n ≤ 32
-    pub there : n ≤ length offsets
-    pub all : take n (map phase offsets) ≡ take 32 (map phase offsets)
-
-  pub few : (n : ℕ) → n ≡ (leb (length offsets) 32 ⇒ length offsets ∣ 32) → Few n
-  few n e =
-      let ps = map phase offsets in
-      let long = length-map offsets phase in
-      either (leb (length offsets) 32)
-      (λ t.
-      let same : n ≡ length offsets = rw t at e in
-      let h = leb-true (length offsets) 32 t in record {
-        at_most = omega arith;
-        there = omega arith;
-        all = take_all n ps (omega arith) ∙ sym (take_all 32 ps (omega arith));
-      })
-      (λ f.
-      let same : n ≡ 32 = rw f at e in
-      let h = leb-false (length offsets) 32 f in record {
-        at_most = omega arith;
-        there = omega arith;
-        all = ap (λ (k : ℕ). take k ps) same;
-      })
 
   -- the first i are read
   abbrev pub read_to : ℕ → List ℕ
@@ -56,15 +30,23 @@ module _ (offsets : List ℕ) where
   unfolding places
   read_none = refl
 
-  pub read_next : {xs : List ℕ} {n : ℕ} (i : ℕ) → Few n → xs ≡ read_to i → i < n
-      → set xs i (phase (get_or offsets i 0)) ≡ read_to (i + 1)
-  read_next i f e h =
-      rw (e, add-one i, sym (get_or-map phase offsets i 0))
-      (places_next 48 0 (map phase offsets) i (omega (arith, length-map offsets phase, f.there)) (omega (arith, f.at_most)))
+  -- of up to 32
+  module _ (n : ℕ) (few : n ≡ min (length offsets) 32) where
+    long : length (take n offsets) ≡ n
+    long = simp length-take (omega arith)
 
-  pub read_all : {xs : List ℕ} {n i : ℕ} → Few n → xs ≡ read_to i → i ≡ n → xs ≡ reduced offsets
-  unfolding reduced
-  read_all f e done = e ∙ ap read_to done ∙ ap (places 48 0) f.all
+    pub read_next : {xs : List ℕ} (i : ℕ) → xs ≡ read_to i → i < length (take n offsets)
+        → set xs i (phase (get_or (take n offsets) i 0)) ≡ read_to (i + 1)
+    read_next i e h =
+        rw (e, add-one i, get_or-take n offsets i 0 (omega (arith, long)), sym (get_or-map phase offsets i 0))
+        (places_next 48 0 (map phase offsets) i (omega (arith, length-map offsets phase, long)) (omega (arith, long)))
+
+    pub read_all : {xs : List ℕ} (i : ℕ) → xs ≡ read_to i → i ≡ length (take n offsets) → xs ≡ reduced offsets
+    unfolding reduced
+    read_all i e done =
+        let ps = map phase offsets in
+        let all : i ≡ min 32 (length ps) = omega (arith, long, length-map offsets phase) in
+        e ∙ ap (places 48 0) (ap (λ (k : ℕ). take k ps) all ∙ take_min 32 ps)
 
   -- ---- all of them
 
@@ -72,7 +54,7 @@ module _ (offsets : List ℕ) where
   unfolding reduced
   reduced_at i h =
       places_at 48 0 (take 32 (map phase offsets)) i h
-      ∙ ap (λ (xs : List ℕ). get_or xs i 0) (take_map phase 32 offsets)
+      ∙ ap (λ (xs : List ℕ). get_or xs i 0) (take-map phase 32 offsets)
       ∙ get_or-map phase (take 32 offsets) i 0
 
   length_reduced : length (reduced offsets) ≡ 48

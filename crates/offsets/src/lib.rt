@@ -1,8 +1,7 @@
 // Offsets of ports: which lists are refused, and how a list is read. Knows no plan and no codebook.
 #![tactic(auto)]
 
-ghost use Rattle.std.specs.Prelude.{◌≡◌, leb};
-ghost use Rattle.ground.specs.Cases.{◌⇒◌∣◌};
+ghost use Rattle.std.specs.Prelude.{◌≡◌};
 ghost use Rattle.offsets.specs.Offsets.{unfit, reduced};
 
 use turn::{Part, TURN};
@@ -14,42 +13,27 @@ pub const PLACES: usize = 48;
 pub fn is_unfit(ports: u32, offsets: &[Part]) -> bool
     ensures { result ≡ unfit ports offsets.now }
 {
-    let n = offsets.len();
-    if n != ports as usize {
+    if offsets.len() != ports as usize {
         return true;
     }
+    // The largest of them all: a search that ends at the first is not vectorised, and a `fold` takes more instructions.
     let mut largest = 0;
-    let mut i = 0;
-    while i < n {
-        let o = offsets[i];
-        if largest < o {
-            largest = o;
+    for o in offsets {
+        if largest < *o {
+            largest = *o;
         }
-        i += 1;
     }
     TURN <= largest
-}
-
-// How many offsets are read, of so many: those of up to 32 ports.
-fn at_most_32(n: usize) -> usize
-    ensures { result ≡ (leb n 32 ⇒ n ∣ 32) }
-{
-    if n <= 32 {
-        return n;
-    }
-    32
 }
 
 // Takes the offsets of 32 ports into the first places, reduced, and 0 where there is none and into the other places.
 pub fn reduce(offsets: &[Part], xs: &mut [Part; PLACES])
     ensures { xs.new ≡ reduced offsets.now }
 {
-    let n = at_most_32(offsets.len());
+    let n = offsets.len().min(32);
     *xs = [0; PLACES];
-    let mut i = 0;
-    while i < n {
-        xs[i] = offsets[i] % TURN;
-        i += 1;
+    for (i, o) in offsets[..n].iter().enumerate() {
+        xs[i] = *o % TURN;
     }
 }
 

@@ -1,5 +1,5 @@
 -- What the writer is handed of a report stands for its plan: layer by layer the same columns.
-use mathlib.Core.Path.{◌≡◌, refl, sym, ap, ap₂, ◌∙◌}
+use mathlib.Core.Path.{◌≡◌, refl, ap, ◌∙◌}
 use mathlib.Core.Bool.{Bool}
 use mathlib.Core.List.{[], map}
 use Prim.Native.Nat.{ℕ, ◌-◌, ◌*◌, ◌<◌}
@@ -11,11 +11,9 @@ use Rattle.ground.specs.Lists.{places, every}
 use Rattle.ground.proofs.Booleans.{either}
 use Rattle.ground.proofs.Tests.{every_at}
 use Rattle.ground.proofs.Lists.{map_twice}
-use Rattle.turn.specs.declared.Beam.{Beam}
 use Rattle.turn.specs.Phase.{phase}
 use Rattle.turn.specs.Column.{beam as beamPhases, column as columnPhases}
 use Rattle.turn.proofs.Columns.{column_same}
-use Rattle.settings.specs.Ranges.{beam}
 use Rattle.plan.specs.Plan.{layer_at, pair_of, no_beam, named, column_of}
 use Rattle.plan.specs.Drawing.{co_row, beam_at, column_at, Draws}
 use Rattle.plan.proofs.Drawn.{beam_drawn}
@@ -24,7 +22,7 @@ use Rattle.multi.specs.Panels.{coefficients, co_phases, Name, B, B', Column, bea
 use Rattle.multi.specs.Panels.{plan, InRange}
 use Rattle.panels.specs.Drawing.{place, code_of, codes_of, chosen, beams_by, quarters_of, in_parts, step_of, drawing_of}
 use Rattle.multi.proofs.InRange.{v_few, mode_two_lem, four_panels}
-use Rattle.multi.proofs.Columns.{column, layer_is, within, base_is}
+use Rattle.multi.proofs.Columns.{column, layer_is, within}
 use Rattle.multi.proofs.Sound.{plan_sound}
 use Rattle.panels.proofs.Codes.{code_place, panel, two_panels, all_panels}
 
@@ -55,13 +53,11 @@ co_drawn r h c =
     (panel c _ 2 _ (few 2 tt) (omega arith) (omega arith) (omega arith) (omega arith))
     (panel c _ 3 _ (few 3 tt) (omega arith) (omega arith) (omega arith) (omega arith))))))
 
--- (i11,i12) and B′, placed by rank, are the beams of the layers
-pub beams_placed : (r : PanelReport) → InRange r → {b : Beam} → b ≡ reached r B'
-    → beams_by r.v (beam r.i11 r.i12) b ≡ named (plan r)
+-- B and B′, placed by rank, are the beams of the layers
+pub beams_placed : (r : PanelReport) → beams_by r.v (reached r B) (reached r B') ≡ named (plan r)
 unfolding beams_by named layer_of
-beams_placed r h e =
-    ap₂ (beams_by r.v) (sym (base_is r h)) e
-    ∙ ap (places 8 no_beam) (map_twice _ pair_of (layer_of r) (λ c. by_name (beam_of c)) (get_or by_rank (r.v - 1) []))
+beams_placed r =
+    ap (places 8 no_beam) (map_twice _ pair_of (layer_of r) (λ c. by_name (beam_of c)) (get_or by_rank (r.v - 1) []))
   where
     by_name : (x : Name) → chosen (reached r B) (reached r B') x ≡ reached r x
     by_name B = refl

@@ -2,4 +2,5 @@
 pub mod Asked
 pub mod Codes
 pub mod Drawn
+pub mod Judged
 pub mod Unique

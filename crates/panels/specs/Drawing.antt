@@ -1,5 +1,5 @@
 -- What the writer is handed of a report.
-use Rattle.std.specs.Prelude.{◌≡◌, List, [], ◌∷◌, map, ℕ, ◌+◌, ◌-◌, ◌*◌, ◌/◌, eqb, get_or}
+use Rattle.std.specs.Prelude.{List, [], ◌∷◌, map, ℕ, ◌+◌, ◌-◌, ◌*◌, ◌/◌, eqb, get_or}
 use Rattle.ground.specs.Cases.{◌⇒◌∣◌}
 use Rattle.ground.specs.Lists.{places}
 use Rattle.turn.specs.declared.Beam.{Beam}
@@ -8,7 +8,6 @@ use Rattle.settings.specs.Settings.{across, down}
 use Rattle.plan.specs.declared.Drawing.{Drawing}
 use Rattle.plan.specs.declared.Lineup.{Lineup}
 use Rattle.plan.specs.Plan.{no_beam}
-use Rattle.masks.specs.declared.Needs.{Needs}
 use Rattle.multi.specs.declared.PanelReport.{PanelReport}
 use Rattle.multi.specs.Panels.{Name, B, B', Column, W¹, W², beam_of, by_rank, reached}
 
@@ -50,11 +49,6 @@ quarters_of r =
 
 abbrev pub in_parts : List ℕ → List ℕ
 in_parts ns = map (λ n. phase (n * quarter)) ns
-
--- the beams that are handed over: B and B′, in four places
-pub record HasBeams (r : PanelReport) (x : Needs) : Type 0 where
-  pub l : x.l ≡ (reached r B).l ∷ (reached r B').l ∷ 0 ∷ 0 ∷ []
-  pub m : x.m ≡ (reached r B).m ∷ (reached r B').m ∷ 0 ∷ 0 ∷ []
 
 -- the steps of a beam in parts of a turn, x + 512·y
 abbrev pub step_of : PanelReport → Beam → ℕ

@@ -4,10 +4,13 @@ use mathlib.Core.Logic.{◌≢◌}
 use mathlib.Core.List.{List, ◌++◌}
 use Prim.Native.Nat.{ℕ, zero, suc}
 use lib.ListN.{length, drop}
+use Rattle.std.specs.Prelude.{⊤, Ok, Err, MatchResult}
+use Rattle.std.proofs.lemmas.Result.{MatchResult-at_ok, MatchResult-at_err}
+use Rattle.refusal.specs.declared.Refusal.{Refusal}
 use Rattle.plan.specs.declared.Record.{Record}
 use Rattle.plan.specs.declared.Drawing.{Drawing}
-use Rattle.plan.specs.declared.Judged.{Judged}
-use Rattle.plan.specs.Answer.{refused, record_of, buffer_of, Answers, refused_by, judged_by}
+use Rattle.plan.specs.declared.Accepted.{Accepted}
+use Rattle.plan.specs.Answer.{refused, record_of, buffer_of, Answers, judged_by}
 
 -- ---- by a number
 
@@ -45,43 +48,31 @@ module _ {A : Type 0} {k : ℕ} {a : Record} (fresh : a.refusal ≡ 0) {answer l
 
 -- ---- a call that has its report judged
 
--- a number that is not 0 refuses
-pub refused_judged : (a : Record) (s : Drawing) (k n : ℕ) → k ≢ 0 → k ≡ n → refused_by k ≡ judged_by a s n
-refused_judged a s zero n h e = absurd (h refl)
-refused_judged a s (suc k) n h e = ap (judged_by a s) e
+module _ (a : Record) (s : Drawing) (k : ℕ) where
+  -- refused: its number is given, and nothing is written
+  pub answers_refused : {A : Type 0} (answer lent : List A) {e : Refusal} → judged_by a s k ≡ Err e
+      → Answers k a answer lent (refused e.number) lent
+  answers_refused answer lent j = MatchResult-at_err (λ c. ⊤) _ _ j (by_number k)
+    where
+      by_number : (k : ℕ) → MatchResult (judged_by a s k) (λ c. ⊤) (λ e. Answers k a answer lent (refused e.number) lent)
+      by_number zero = tt
+      by_number (suc k) = record { record_is = refl; buffer_is = refl }
 
-judged_record : (a : Record) (s : Drawing) (k : ℕ) → (judged_by a s k).given ≡ record_of a k
-judged_record a s zero = refl
-judged_record a s (suc k) = refl
-
-module _ (k : ℕ) (a : Record) (fresh : a.refusal ≡ 0) (s : Drawing) {c : Judged} (e : c ≡ judged_by a s k) where
-  given_is : c.given ≡ record_of a k
-  given_is = ap (λ (x : Judged). x.given) e ∙ judged_record a s k
-
-  number_is : c.given.refusal ≡ k
-  number_is = ap (λ (x : Record). x.refusal) given_is ∙ record_number a k fresh
-
-  -- refused: its record is handed on, and nothing is written
-  pub answers_refused : {A : Type 0} (answer lent : List A) → c.given.refusal ≢ 0 → Answers k a answer lent c.given lent
-  answers_refused answer lent h = record {
-    record_is = given_is;
-    buffer_is = sym (by_refusal a k answer lent (λ z. h (number_is ∙ z))).0;
-  }
-
-  module _ (z : c.given.refusal ≡ 0) where
-    none : k ≡ 0
-    none = sym number_is ∙ z
-
-    -- accepted: its drawing is the one that was asked for
+  -- accepted: the record is given with what is to be written
+  module _ {c : Accepted} (j : judged_by a s k ≡ Ok c) where
     pub judged_accepted : (k ≡ 0) × (c.given ≡ a) × (c.drawing ≡ s)
-    judged_accepted =
-        let f = e ∙ ap (judged_by a s) none in
-        (none, ap (λ (x : Judged). x.given) f, ap (λ (x : Judged). x.drawing) f)
+    judged_accepted = MatchResult-at_ok _ (λ e. ⊤) _ j (by_number k)
+      where
+        by_number : (k : ℕ) → MatchResult (judged_by a s k) (λ c. (k ≡ 0) × (c.given ≡ a) × (c.drawing ≡ s)) (λ e. ⊤)
+        by_number zero = (refl, refl, refl)
+        by_number (suc k) = tt
 
     pub answers_accepted : {A : Type 0} (answer lent : List A) (n : ℕ) {left : List A} → length answer ≡ n
         → left ≡ answer ++ drop n lent → Answers k a answer lent c.given left
-    answers_accepted answer lent n l f = record {
-      record_is = given_is;
-      buffer_is =
-          f ∙ ap (λ (i : ℕ). answer ++ drop i lent) (sym l) ∙ ap (λ (i : ℕ). buffer_of i answer lent) (sym none);
-    }
+    answers_accepted answer lent n l f =
+        let (none, record_is, _) = judged_accepted in
+        record {
+          record_is = record_is ∙ ap (record_of a) (sym none);
+          buffer_is =
+              f ∙ ap (λ (i : ℕ). answer ++ drop i lent) (sym l) ∙ ap (λ (i : ℕ). buffer_of i answer lent) (sym none);
+        }

@@ -9,9 +9,10 @@ use lib.Arith.{digits_lt}
 use lib.ListN.{length, take, drop, get_or, replicate, length-map, get_or-append, get_or-map}
 use lib.Seq.{take_at}
 use borrow.Author.Tests.{eqb-false}
+use Rattle.std.proofs.lemmas.List.{get_or-map as map_at, drop-map, take-map}
 use Rattle.ground.specs.Lists.{among, All}
 use Rattle.ground.specs.First.{None}
-use Rattle.ground.proofs.Lists.{map_at, drop_map, take_map, all_same, places_append}
+use Rattle.ground.proofs.Lists.{all_same, places_append}
 use Rattle.ground.proofs.First.{some_none}
 use Rattle.turn.specs.declared.Beam.{Beam}
 use Rattle.turn.specs.Phase.{turn, phase}
@@ -33,7 +34,7 @@ use Rattle.plan.proofs.Layers.{layer_before}
 use Rattle.plan.proofs.Base.{matrix_doubled}
 use Rattle.plan.proofs.FedMatrix.{length_fed_matrix, fed_layer, fed_entry}
 use Rattle.plan.proofs.Answers.{number_given, as_accepted}
-use Rattle.plan.proofs.Accepted.{accepted_none, accepted_in_range, accepted_fits, accepted_fed}
+use Rattle.plan.proofs.Passed.{accepted_none, accepted_in_range, accepted_fits, accepted_fed}
 
 module _ {R : Type 0} (b : Codebook R) {InRange : R → Type 0} (lawful : Lawful b InRange)
     (r : R) (mask : List ℕ) (ranks : ℕ) (offsets : List ℕ) where
@@ -150,7 +151,7 @@ module _ {R : Type 0} (b : Codebook R) {InRange : R → Type 0} (lawful : Lawful
     left_layer_weights j h =
         ap (layer_in P j) left_pairs
         ∙ layer_before P v j (map weight (fed_matrix offsets (b.plan r))) _ h long_weights
-        ∙ rw (drop_map, take_map) (ap (map weight) (fed_layer offsets (b.plan r) (sound _ call e) j h))
+        ∙ rw (drop-map, take-map) (ap (map weight) (fed_layer offsets (b.plan r) (sound _ call e) j h))
 
     pub left_weight : (i : ℕ) → i < v * P → get_or (pairs left) i no_weight ≡ weight (get_or (fed_matrix offsets (b.plan r)) i 0)
     left_weight i h =

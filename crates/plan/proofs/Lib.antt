@@ -7,7 +7,7 @@ pub mod Matrix
 pub mod Base
 pub mod FedMatrix
 pub mod Answers
-pub mod Accepted
+pub mod Passed
 pub mod Calls
 pub mod Zeros
 pub mod Demands

@@ -20,7 +20,7 @@ use Rattle.plan.specs.Answer.{PhasesLeft}
 use Rattle.plan.specs.Lawful.{Lawful}
 use Rattle.plan.proofs.Base.{matrix_doubled}
 use Rattle.plan.proofs.FedMatrix.{fed_matrix_zeros}
-use Rattle.plan.proofs.Accepted.{accepted_in_range}
+use Rattle.plan.proofs.Passed.{accepted_in_range}
 
 -- a buffer that is to hold the same answer, where it is to hold one
 same_buffer : (k : ℕ) {answer answer' : List ℕ} (lent : List ℕ) → (k ≡ 0 → answer ≡ answer')

@@ -1,13 +1,15 @@
 -- What a codebook is, how its reports are refused, and what a call answers: the record, and what the lent buffer then holds.
-use Rattle.std.specs.Prelude.{◌≡◌, Bool, not, ◌||◌, List, [], ◌∷◌, ◌++◌, map, ℕ, zero, suc, ◌*◌, ◌/◌, eqb, ltb, ℤ, length, drop, replicate}
+use Rattle.std.specs.Prelude.{◌≡◌, Bool, not, ◌||◌, List, ◌++◌, map, ℕ, zero, suc, ◌*◌, ◌/◌, eqb, ltb, ℤ, Result, length, drop, replicate}
 use Rattle.ground.specs.Cases.{◌⇒◌∣◌}
 use Rattle.ground.specs.First.{first, part}
+use Rattle.refusal.specs.declared.Refusal.{Refusal}
+use Rattle.refusal.specs.Outcome.{given}
 use Rattle.turn.specs.declared.Beam.{Beam}
 use Rattle.weight.specs.Table.{weight, numbers}
 use Rattle.offsets.specs.Offsets.{unfit}
 use Rattle.plan.specs.declared.Record.{Record}
 use Rattle.plan.specs.declared.Drawing.{Drawing}
-use Rattle.plan.specs.declared.Judged.{Judged}
+use Rattle.plan.specs.declared.Accepted.{Accepted}
 use Rattle.plan.specs.Plan.{Plan, no_beam, named}
 use Rattle.plan.specs.Offsets.{fed_matrix}
 use Rattle.plan.specs.Masks.{barred, rank_barred}
@@ -110,27 +112,11 @@ module _ {R : Type 0} (b : Codebook R) where
   WeightsLeft r mask ranks offsets lent given left =
       Called r mask ranks offsets (length lent / 2) (weights_of offsets r) lent given left
 
--- nothing to write
-abbrev pub blank : Drawing
-blank = record {
-  v = 0;
-  pairs = 0;
-  rows = 0;
-  columns = 0;
-  steps = 0 ∷ 0 ∷ 0 ∷ 0 ∷ [];
-  co = 0 ∷ 0 ∷ 0 ∷ 0 ∷ 0 ∷ 0 ∷ 0 ∷ 0 ∷ [];
-  codes = 0 ∷ 0 ∷ 0 ∷ 0 ∷ 0 ∷ 0 ∷ 0 ∷ 0 ∷ [];
-}
-
--- a report that is refused by a number; one that is accepted, with P, v, the scale, the beams of its layers, and what is to
--- be written; and one that has been judged, by the number of its refusal
-abbrev pub refused_by : ℕ → Judged
-refused_by k = record { given = refused k; drawing = blank }
-
-abbrev pub accepted_as : ℕ → ℕ → ℕ → List Beam → Drawing → Judged
+-- a report that is accepted, with P, v, the scale, the beams of its layers, and what is to be written
+abbrev pub accepted_as : ℕ → ℕ → ℕ → List Beam → Drawing → Accepted
 accepted_as p v scale beams s =
     record { given = record { refusal = 0; ports = p; layers = v; scale = scale; beams = beams }; drawing = s }
 
-abbrev pub judged_by : Record → Drawing → ℕ → Judged
-judged_by accepted s zero = record { given = accepted; drawing = s }
-judged_by accepted s (suc k) = refused_by (suc k)
+-- what a judge gives, by the number of the refusal: the accepted record with what is to be written, or the refusal
+abbrev pub judged_by : Record → Drawing → ℕ → Result Accepted Refusal
+judged_by accepted s k = given (record { given = accepted; drawing = s }) k

@@ -1,5 +1,5 @@
 -- What is drawn of the numbers that the writer is handed.
-use Rattle.std.specs.Prelude.{◌≡◌, Bool, ◌&&◌, List, [], ◌∷◌, ◌++◌, ℕ, zero, suc, ◌+◌, ◌*◌, ◌/◌, ◌%◌, ◌^◌, ◌<◌, leb, length, get_or}
+use Rattle.std.specs.Prelude.{◌≡◌, Bool, ◌&&◌, Option, Some, None, List, [], ◌∷◌, ◌++◌, ℕ, zero, suc, ◌+◌, ◌*◌, ◌/◌, ◌%◌, ◌^◌, ◌<◌, leb, length, get_or}
 use Rattle.ground.specs.Cases.{◌⇒◌∣◌}
 use Rattle.ground.specs.Lists.{over}
 use Rattle.turn.specs.Phase.{half}
@@ -65,9 +65,9 @@ drawable s room =
 unfoldable pub layers_in : List ℕ → Drawing → ℕ → List ℕ
 layers_in offsets s room = drawable s room ⇒ drawn offsets s s.v ∣ []
 
--- the layers stand at the front of a lent list, and so many entries they are
-pub record Written (offsets : List ℕ) (s : Drawing) (lent : List ℕ) (n : ℕ) (left : List ℕ) : Type 0 where
-  pub many : n ≡ length (layers_in offsets s (length lent))
+-- the layers stand at the front of a lent list, and so many entries they are; no number where they cannot be drawn in it
+pub record Written (offsets : List ℕ) (s : Drawing) (lent : List ℕ) (n : Option ℕ) (left : List ℕ) : Type 0 where
+  pub many : n ≡ (drawable s (length lent) ⇒ Some (length (layers_in offsets s (length lent))) ∣ None)
   pub stands : left ≡ over (layers_in offsets s (length lent)) lent
 
 -- the numbers stand for a plan: its sizes, and layer by layer its columns

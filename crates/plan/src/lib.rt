@@ -2,8 +2,9 @@
 #![tactic(auto)]
 
 ghost use Rattle.std.specs.Prelude.{◌≡◌};
-ghost use Rattle.plan.specs.Answer.{refused_by, accepted_as};
+ghost use Rattle.plan.specs.Answer.{refused, accepted_as};
 
+use refusal::Refusal;
 use turn::{Beam, Part};
 
 // What a call answers: the number of the refusal and zeros; or 0, the ports P, the layers v, the scale v·P, and for each
@@ -13,6 +14,7 @@ use turn::{Beam, Part};
 #[repr(C)]
 #[derive(Clone, Copy)]
 pub struct Record {
+    // a number and no Result, since C reads it
     pub refusal: u32,
     pub ports: u32,
     pub layers: u32,
@@ -35,57 +37,58 @@ pub struct Drawing {
     pub codes: [u16; 8],
 }
 
-// The layers of a report, each in its place of eight: its code, and its beam. Unused places have 0, and no beam.
+// The layers of a report, each in its place of eight: its code, and its beam. Unused places have 0, and no beam. The beams
+// stand apart from the codes, since a record, which C reads, has them so.
 #[derive(Clone, Copy)]
 pub struct Lineup {
     pub codes: [u16; 8],
     pub beams: [Beam; 8],
 }
 
-// A report that has been judged: its record, and what is to be written where it is accepted.
+// A report that is accepted: its record, and what is to be written.
 #[derive(Clone, Copy)]
-pub struct Judged {
+pub struct Accepted {
     pub given: Record,
     pub drawing: Drawing,
 }
 
-// A report that is refused by a number.
-pub fn refuse(number: u32) -> Judged
-    ensures { result ≡ refused_by number }
-{
-    let none = Beam { l: 0, m: 0 };
-    Judged {
-        given: Record {
-            refusal: number,
+// What belongs to an array and not to a report: the beam mask, the rank mask, and the offsets of its ports. The room of a lent
+// buffer is a call's, and goes beside it.
+#[derive(Clone, Copy)]
+pub struct Site<'a> {
+    pub mask: &'a [u8],
+    pub ranks: u8,
+    pub offsets: &'a [Part],
+}
+
+impl Record {
+    // The record of a report that is refused: the number, zeros and no beam.
+    pub fn refused(refusal: Refusal) -> Record
+        ensures { result ≡ refused refusal.number }
+    {
+        let none = Beam { l: 0, m: 0 };
+        Record {
+            refusal: refusal.number,
             ports: 0,
             layers: 0,
             scale: 0,
             beams: [none; 8],
-        },
-        drawing: Drawing {
-            v: 0,
-            pairs: 0,
-            rows: 0,
-            columns: 0,
-            steps: [0; 4],
-            co: [0; 8],
-            codes: [0; 8],
-        },
+        }
     }
 }
 
 // A report that is accepted: its ports, layers, scale and beams, and what is to be written of it.
-pub fn accept(ports: u32, layers: u32, scale: u32, beams: [Beam; 8], drawing: Drawing) -> Judged
+pub fn accept(ports: u32, layers: u32, scale: u32, beams: [Beam; 8], drawing: Drawing) -> Accepted
     ensures { result ≡ accepted_as ports layers scale beams drawing }
 {
-    Judged {
+    Accepted {
         given: Record {
             refusal: 0,
-            ports: ports,
-            layers: layers,
-            scale: scale,
-            beams: beams,
+            ports,
+            layers,
+            scale,
+            beams,
         },
-        drawing: drawing,
+        drawing,
     }
 }

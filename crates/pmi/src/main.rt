@@ -2,80 +2,60 @@
 // written.
 #![tactic(auto)]
 
-ghost use Rattle.std.specs.Prelude.{◌≤◌, length};
+ghost use Rattle.std.specs.Prelude.{◌≤◌, length, IfOk};
 
 use std::io::{Read, Write};
+use std::{fmt, io};
 
-// How many bytes were read, and whether a read failed.
+// What did not go well, in this program's own words; readlog has its own.
 #[derive(Clone, Copy)]
-struct Input {
-    length: usize,
-    failed: bool,
+enum Failure {
+    // A read failed.
+    NotRead,
+    // A write failed.
+    NotWritten,
+}
+
+impl fmt::Display for Failure {
+    fn fmt<W: fmt::Write>(&self, f: &mut fmt::Formatter<W>) -> fmt::Result {
+        match self {
+            Failure::NotRead => write!(f, "the input could not be read"),
+            Failure::NotWritten => write!(f, "the answer could not be written"),
+        }
+    }
 }
 
 fn main(rt: HostRuntime) {
-    let mut errors = rt.stderr();
     // one byte more than the longest line, so that a longer one is seen to be longer
     let mut line = [0; line::LONGEST_LINE + 1];
-    let input = read_input(&mut rt.stdin(), &mut line);
-    say_if(
-        &mut errors,
-        input.failed,
-        b"pmi: the input could not be read\n",
-    );
-    let n = input.length;
+    let n = read_input(&mut rt.stdin(), &mut line).unwrap_or_else(|_| {
+        // what was to come is not known
+        say(&rt, Failure::NotRead);
+        0
+    });
     let mut text = [0; printer::LONGEST_TEXT];
-    let p = printer::print(&line[..n], &mut text);
-    let written = p.length;
-    let whole = rt.write_all(&text[..written]).is_ok();
-    say_if(
-        &mut errors,
-        !whole,
-        b"pmi: the answer could not be written\n",
-    );
-}
-
-fn say_if<W: Write>(errors: &mut W, fault: bool, message: &[u8]) {
-    if fault {
-        let _ = errors.write_all(message);
+    let n = printer::print(&line[..n], &mut text).map_or(0, |p| p.length);
+    if rt.write_all(&text[..n]).is_err() {
+        say(&rt, Failure::NotWritten);
     }
 }
 
-// Reads until the line is full or the input ends. Where a read fails the length is 0, since what was to come is not known.
-fn read_input<R: Read>(input: &mut R, line: &mut [u8]) -> Input
-    ensures { result.length ≤ length line.new }
+fn say(rt: &impl Eprint, failure: Failure) {
+    let _ = eprintln!(rt; "pmi: {failure}");
+}
+
+// Reads until the line is full or the input ends, and gives how many bytes were read. (std's `read_to_end` takes a Vec, which
+// allocates.)
+fn read_input<R: Read>(input: &mut R, line: &mut [u8]) -> io::Result<usize>
+    ensures { IfOk result (λ n. n ≤ length line.new) }
 {
     let mut n = 0;
     while n < line.len() {
-        let more = read_once(input, &mut line[n..]);
-        if more.failed {
-            return Input {
-                length: 0,
-                failed: true,
-            };
-        }
-        if more.length == 0 {
+        let more = input.read(&mut line[n..])?;
+        if more == 0 {
             break;
         }
-        n += more.length;
+        n += more;
     }
-    Input {
-        length: n,
-        failed: false,
-    }
-}
-
-fn read_once<R: Read>(input: &mut R, rest: &mut [u8]) -> Input
-    ensures { result.length ≤ length rest.new }
-{
-    match input.read(rest) {
-        Ok(n) => Input {
-            length: n,
-            failed: false,
-        },
-        Err(_) => Input {
-            length: 0,
-            failed: true,
-        },
-    }
+    Ok(n)
 }

@@ -22,7 +22,7 @@ use Rattle.single.specs.Plan.{whole, layers}
 use Rattle.single.specs.Masks.{bits_read}
 use Rattle.text.specs.Words.{newline, space, ending, joined, decimal_in, line_of, headed}
 use Rattle.text.specs.Text.{ok_text, lines_of, record_text}
-use Rattle.line.specs.declared.Reading.TheVariants.{Read, Unreadable}
+use Rattle.std.specs.Prelude.{Some, None}
 use Rattle.line.specs.Form.{is_digit, value_after, is_decimal, Reads}
 use Rattle.line.specs.Scan.{lead, is_ended}
 use Rattle.printer.specs.Prints.{full_mask, no_offsets, refusal_of, text_of}
@@ -36,12 +36,12 @@ example = 50 ∷ 32 ∷ 49 ∷ 32 ∷ 49 ∷ 32 ∷ 50 ∷ 32 ∷ 55 ∷ 32 ∷ 
 abbrev pub report : Report
 report = record { n1 = 2; n2 = 1; mode = 1; v = 2; i11 = 7; i12 = 0; i13 = 1; i2 = 0 }
 
-pub example_read : Reads (example ++ newline ∷ []) (Read report)
+pub example_read : Reads (example ++ newline ∷ []) (Some report)
 unfolding good words rest is_ended lead is_decimal each is_digit value_after ending
 example_read = reads_report _ (omega arith) refl refl
 
 -- `ok 4 2 8`, `0 336 0 336` and `0 144 192 336`
-pub example_text : text_of (Read report)
+pub example_text : text_of (Some report)
     ≡ (111 ∷ 107 ∷ 32 ∷ 52 ∷ 32 ∷ 50 ∷ 32 ∷ 56 ∷ 10 ∷ [])
     ++ (48 ∷ 32 ∷ 51 ∷ 51 ∷ 54 ∷ 32 ∷ 48 ∷ 32 ∷ 51 ∷ 51 ∷ 54 ∷ 10 ∷ [])
     ++ (48 ∷ 32 ∷ 49 ∷ 52 ∷ 52 ∷ 32 ∷ 49 ∷ 57 ∷ 50 ∷ 32 ∷ 51 ∷ 51 ∷ 54 ∷ 10 ∷ [])
@@ -55,14 +55,14 @@ unfolding
     ending joined decimal_in line_of headed ok_text lines_of record_text full_mask no_offsets refusal_of
 example_text = refl
 
-pub without_newline : Reads example Unreadable
+pub without_newline : Reads example None
 unfolding good rest is_ended lead is_decimal each is_digit value_after ending
 without_newline = reads_nothing _ refl
 
-pub byte_after_newline : Reads (example ++ newline ∷ space ∷ []) Unreadable
+pub byte_after_newline : Reads (example ++ newline ∷ space ∷ []) None
 unfolding good rest is_ended lead is_decimal each is_digit value_after ending
 byte_after_newline = reads_nothing _ refl
 
-pub space_in_front : Reads (space ∷ example ++ newline ∷ []) Unreadable
+pub space_in_front : Reads (space ∷ example ++ newline ∷ []) None
 unfolding good rest is_ended lead is_decimal each is_digit value_after ending
 space_in_front = reads_nothing _ refl

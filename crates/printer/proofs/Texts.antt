@@ -1,7 +1,7 @@
 -- The mask, the offsets, the record and the text for a report: what a call of `phases` with all mask bits ones and all
 -- offsets 0 gives and leaves.
 use mathlib.Core.Path.{◌≡◌, refl, sym, ap, ◌∙◌}
-use mathlib.Core.Bool.{true}
+use mathlib.Core.Bool.{Bool, true, false}
 use mathlib.Core.List.{List, map}
 use Prim.Native.Nat.{ℕ, zero, suc, ◌*◌, ◌<◌, ◌≤◌}
 use native.Mathlib.Omega.{arith}
@@ -9,7 +9,7 @@ use borrow.Author.Rules.{rules}
 use lib.Dec.{eqb, leb, leb→le}
 use lib.ListN.{length, take, drop, replicate}
 use lib.Seq.{take_at}
-use borrow.Author.Tests.{ltb-false}
+use borrow.Author.Tests.{ltb-false, leb-true}
 use Rattle.ground.proofs.Booleans.{either, cond_each}
 use Rattle.ground.proofs.All.{all_each}
 use Rattle.ground.specs.Cases.{◌⇒◌∣◌}
@@ -21,7 +21,7 @@ use Rattle.plan.specs.Offsets.{fed_matrix}
 use Rattle.plan.specs.Base.{doubled, base_matrix}
 use Rattle.plan.specs.Sound.{Sound}
 use Rattle.plan.specs.Answer.{refused, planned, record_of, buffer_of, test, refusal, Called}
-use Rattle.plan.proofs.Accepted.{rules_passed}
+use Rattle.plan.proofs.Passed.{rules_passed}
 use Rattle.plan.proofs.Base.{matrix_doubled}
 use Rattle.plan.proofs.FedMatrix.{fed_matrix_below, fed_matrix_zeros, length_fed_matrix}
 use Rattle.settings.specs.declared.Sizes.{Sizes}
@@ -31,17 +31,17 @@ use Rattle.report.specs.declared.Report.{Report}
 use Rattle.single.specs.Plan.{plan}
 use Rattle.single.specs.Single.{order, single}
 use Rattle.single.proofs.Lawful.{single_lawful}
-use Rattle.text.specs.Text.{record_text, three_digits, printable, Writes}
+use Rattle.std.specs.Prelude.{Option, Some, None as Nothing}
+use Rattle.std.specs.Option.{option_map}
+use Rattle.ground.specs.Lent.{is_written, Writes}
+use Rattle.ground.proofs.Writes.{written}
+use Rattle.text.specs.Text.{record_text, three_digits, printable}
 use Rattle.text.proofs.Digits.{all_short}
-use Rattle.text.proofs.Writes.{by_length, written_within}
-use Rattle.text.proofs.Records.{text_before, text_refused, Limits, within_limits, record_some, unreadable_some}
-use Rattle.line.specs.declared.Reading.{Reading}
-use Rattle.line.specs.declared.Reading.TheVariants.{Read, Unreadable}
+use Rattle.text.proofs.Records.{text_before, text_refused, Limits, within_limits}
 use Rattle.printer.specs.declared.Answer.{Answer}
-use Rattle.printer.specs.declared.Answer.TheVariants.{NoRoom}
 use Rattle.printer.specs.declared.Printed.{Printed}
 use Rattle.printer.specs.Prints.{full_mask, no_offsets, asked_of, refusal_of, record_for, phases_for, answer_by, answer_of}
-use Rattle.printer.specs.Prints.{text_of, Outcome, Prints}
+use Rattle.printer.specs.Prints.{text_of, printed_of, Outcome, Prints}
 use Rattle.printer.proofs.Answered.{first_passes}
 
 -- ---- the beam mask whose bits are all ones and the offsets that are all 0, as parts of 32 places
@@ -113,20 +113,19 @@ module _ (r : Report) where
   pub phases_few : All (λ x. x < 1000) (phases_for r)
   phases_few = all_each (λ x h. omega arith) (fed_matrix_below _ (plan r))
 
-pub text_some : (a : Reading) → 0 < length (text_of a)
-text_some (Read r) = record_some (record_for r) (phases_for r)
-text_some Unreadable = unreadable_some
-
 -- ---- what is given and left
 
-pub outcome_of : (a : Reading) {n : ℕ} {lent left : List ℕ} {answer : Answer} {given : Printed}
+pub outcome_of : (a : Option Report) {n : Option ℕ} {lent left : List ℕ} {answer : Answer} {given : Option Printed}
     → Writes true (text_of a) lent n left → answer ≡ answer_of a
-    → given ≡ record { answer = eqb n 0 ⇒ NoRoom ∣ answer; length = n } → Outcome a lent given left
-outcome_of a {n} {lent} w x e =
-    let same = e ∙ ap (λ (y : Answer). record { answer = eqb n 0 ⇒ NoRoom ∣ y; length = n }) x in
+    → given ≡ option_map (λ k. record { answer = answer; length = k }) n → Outcome a lent given left
+outcome_of a {n} {lent} {left} {answer} w x e =
+    let with : ℕ → Printed = λ k. record { answer = answer_of a; length = k } in
     record {
-      answers = ap (λ (p : Printed). p.answer) same ∙ by_length (text_of a) lent NoRoom (answer_of a) (text_some a) w;
-      writes = rw e w;
+      gives =
+          e ∙ ap (λ (y : Answer). option_map (λ (k : ℕ). record { answer = y; length = k }) n) x
+          ∙ ap (option_map with) w.gives
+          ∙ cond_each (option_map with) (is_written true (text_of a) lent) refl refl;
+      leaves = w.leaves;
     }
 
 -- a call with such parts has all mask bits ones and all offsets 0
@@ -149,7 +148,7 @@ module _ (r : Report) {given : Record} {phases left : List ℕ}
   buffer_left = call.buffer_is
 
   -- the text of what is given and left is that for the report
-  text_given : record_text given left ≡ text_of (Read r)
+  text_given : record_text given left ≡ text_of (Some r)
   text_given =
       ap (λ (a : Record). record_text a left) record_given
       ∙ ap (record_text (record_for r)) buffer_left
@@ -180,13 +179,21 @@ module _ (r : Report) {given : Record} {phases left : List ℕ}
       by_number (suc k) e long =
           within_limits (refused (suc k)) phases (limits_by r (suc k) e) (omega arith) (all_short all_nil)
 
-  pub outcome_read : length left ≡ 256 → {n : ℕ} {lent out : List ℕ} {answer : Answer} {p : Printed}
+  pub outcome_read : length left ≡ 256 → {n : Option ℕ} {lent out : List ℕ} {answer : Answer} {p : Option Printed}
       → Writes (printable given left) (record_text given left) lent n out → answer ≡ answer_by given
-      → p ≡ record { answer = eqb n 0 ⇒ NoRoom ∣ answer; length = n } → Outcome (Read r) lent p out
+      → p ≡ option_map (λ k. record { answer = answer; length = k }) n → Outcome (Some r) lent p out
   outcome_read size w x e =
-      outcome_of (Read r) (rw (may_write size, text_given) at w) (x ∙ ap answer_by record_given) e
+      outcome_of (Some r) (rw (may_write size, text_given) at w) (x ∙ ap answer_by record_given) e
 
 -- what is printed lies in the lent buffer
-pub printed_within : {line lent left : List ℕ} {given : Printed} → Prints line lent given left
+pub printed_within : {line lent left : List ℕ} {given : Printed} → Prints line lent (Some given) left
     → given.length ≤ length lent
-printed_within p = written_within (text_of p.reading) _ p.outcome.writes
+unfolding is_written
+printed_within {lent = lent} {given = given} p = go (leb (length (text_of p.reading)) (length lent)) refl p.outcome.gives
+  where
+    go : (b : Bool) → leb (length (text_of p.reading)) (length lent) ≡ b → Some given ≡ (b ⇒ Some (printed_of p.reading) ∣ Nothing)
+        → given.length ≤ length lent
+    go true f e =
+        let same : given ≡ printed_of p.reading = cc in
+        omega (arith, ap (λ (x : Printed). x.length) same, leb-true (length (text_of p.reading)) (length lent) f)
+    go false f e = absurd (cc)

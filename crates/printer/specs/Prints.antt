@@ -1,5 +1,5 @@
 -- How the printing program answers: the record for a report, the text, and what a call gives and leaves.
-use Rattle.std.specs.Prelude.{◌≡◌, true, List, ℕ, eqb, replicate}
+use Rattle.std.specs.Prelude.{◌≡◌, true, List, ◌++◌, ℕ, eqb, replicate, length, drop, Option, Some, None}
 use Rattle.ground.specs.Cases.{◌⇒◌∣◌}
 use Rattle.plan.specs.declared.Record.{Record}
 use Rattle.plan.specs.Offsets.{fed_matrix}
@@ -8,12 +8,11 @@ use Rattle.settings.specs.Settings.{is_setting, ports, mask_bytes}
 use Rattle.report.specs.declared.Report.{Report}
 use Rattle.single.specs.Plan.{plan}
 use Rattle.single.specs.Single.{single}
-use Rattle.text.specs.Text.{record_text, unreadable_text, is_written, Writes}
-use Rattle.line.specs.declared.Reading.{Reading}
-use Rattle.line.specs.declared.Reading.TheVariants.{Read, Unreadable as Unread}
+use Rattle.ground.specs.Lent.{is_written}
+use Rattle.text.specs.Text.{record_text, unreadable_text}
 use Rattle.printer.specs.declared.FirstLine.{FirstLine}
 use Rattle.printer.specs.declared.Answer.{Answer}
-use Rattle.printer.specs.declared.Answer.TheVariants.{Accepted, Refused, Unreadable, NoRoom}
+use Rattle.printer.specs.declared.Answer.TheVariants.{Accepted, Refused, Unreadable}
 use Rattle.printer.specs.declared.Printed.{Printed}
 use Rattle.line.specs.Form.{Reads}
 
@@ -47,21 +46,25 @@ first_line_of a = record { ports = a.ports; layers = a.layers; scale = a.scale }
 unfoldable pub answer_by : Record → Answer
 answer_by a = eqb a.refusal 0 ⇒ Accepted (first_line_of a) ∣ Refused a.refusal
 
-abbrev pub answer_of : Reading → Answer
-answer_of (Read r) = answer_by (record_for r)
-answer_of Unread = Unreadable
+abbrev pub answer_of : Option Report → Answer
+answer_of (Some r) = answer_by (record_for r)
+answer_of None = Unreadable
 
-abbrev pub text_of : Reading → List ℕ
-text_of (Read r) = record_text (record_for r) (phases_for r)
-text_of Unread = unreadable_text
+abbrev pub text_of : Option Report → List ℕ
+text_of (Some r) = record_text (record_for r) (phases_for r)
+text_of None = unreadable_text
 
--- What is given and left: the answer, and its text at the front of the buffer with what was lent after it; or, where the
--- text has more bytes than are lent, all of it as lent.
-pub record Outcome (reading : Reading) (lent : List ℕ) (given : Printed) (left : List ℕ) : Type 0 where
-  pub answers : given.answer ≡ (is_written true (text_of reading) lent ⇒ answer_of reading ∣ NoRoom)
-  pub writes : Writes true (text_of reading) lent given.length left
+-- the answer to a reading, and the length of its text
+abbrev pub printed_of : Option Report → Printed
+printed_of reading = record { answer = answer_of reading; length = length (text_of reading) }
 
-pub record Prints (line lent : List ℕ) (given : Printed) (left : List ℕ) : Type 0 where
-  pub reading : Reading
+-- What is given and left: the answer with the length of its text, which stands at the front of the buffer with what was lent
+-- after it; or, where the text has more bytes than are lent, nothing, and all of it as lent.
+pub record Outcome (reading : Option Report) (lent : List ℕ) (given : Option Printed) (left : List ℕ) : Type 0 where
+  pub gives : given ≡ (is_written true (text_of reading) lent ⇒ Some (printed_of reading) ∣ None)
+  pub leaves : left ≡ (is_written true (text_of reading) lent ⇒ text_of reading ++ drop (length (text_of reading)) lent ∣ lent)
+
+pub record Prints (line lent : List ℕ) (given : Option Printed) (left : List ℕ) : Type 0 where
+  pub reading : Option Report
   pub reads : Reads line reading
   pub outcome : Outcome reading lent given left

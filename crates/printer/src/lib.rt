@@ -1,15 +1,14 @@
 // A line of text, answered by text.
 #![tactic(auto)]
 
-ghost use Rattle.std.specs.Prelude.{◌≡◌, eqb};
-ghost use Rattle.ground.specs.Cases.{◌⇒◌∣◌};
-ghost use Rattle.line.specs.declared.Reading.TheVariants.{Read};
-ghost use Rattle.printer.specs.declared.Answer.TheVariants.{NoRoom};
+ghost use Rattle.std.specs.Prelude.{◌≡◌};
+ghost use Rattle.std.specs.Option.{option_map};
+ghost use Rattle.settings.specs.Settings.{sizes_of};
 ghost use Rattle.printer.specs.Prints.{answer_by, Outcome, Prints};
 
-use line::Reading;
-use plan::Record;
+use plan::{Record, Site};
 use report::Report;
+use settings::Sizes;
 
 // The numbers of the first line of a precoder's text: the ports P, the layers v and the scale v·P.
 #[derive(Clone, Copy)]
@@ -19,14 +18,13 @@ pub struct FirstLine {
     pub scale: u32,
 }
 
-// How a line is answered: by a precoder, of which the first line is held, by a refusal, by the word that it has not the
-// form of a report, or, where fewer bytes are lent than the text has, by nothing.
+// How a line is answered: by a precoder, of which the first line is held, by a refusal, with its number as a record has it for
+// C, or by the word that it has not the form of a report.
 #[derive(Clone, Copy)]
 pub enum Answer {
     Accepted(FirstLine),
     Refused(u32),
     Unreadable,
-    NoRoom,
 }
 
 // An answer, and how many bytes of text stand in the lent buffer.
@@ -54,47 +52,49 @@ fn answer_by(a: Record) -> Answer
     })
 }
 
-// An answer whose text has n bytes in the lent buffer; without any there was no room.
-fn given(answer: Answer, n: usize) -> Printed
-    ensures { result ≡ record { answer = eqb n 0 ⇒ NoRoom ∣ answer; length = n } }
+// An answer with the length of its text, where this was written.
+fn given(answer: Answer, length: Option<usize>) -> Option<Printed>
+    ensures { result ≡ option_map (λ n. record { answer = answer; length = n }) length }
 {
-    if n == 0 {
-        return Printed {
-            answer: Answer::NoRoom,
-            length: n,
-        };
-    }
-    Printed {
-        answer: answer,
-        length: n,
-    }
+    let length = length?;
+    Some(Printed { answer, length })
+}
+
+// What follows from the setting of a report; zeros where it is none.
+fn sizes_of(r: Report) -> Sizes
+    ensures { result ≡ sizes_of r.n1 r.n2 }
+{
+    settings::sizes_of(r.n1, r.n2).unwrap_or_default()
 }
 
 // The text for a report, all mask bits ones and all offsets 0.
-fn answer_to(r: Report, out: &mut [u8]) -> Printed
-    ensures { Outcome (Read r) out.old result out.new }
+fn answer_to(r: Report, out: &mut [u8]) -> Option<Printed>
+    ensures { Outcome (Some r) out.old result out.new }
 {
-    let sizes = settings::sizes_of(r.n1, r.n2);
+    let sizes = sizes_of(r);
     let bytes = sizes.bytes as usize;
     let ports = sizes.ports as usize;
     let ones = [255; 32];
     let zeros = [0; 32];
     let mut phases = [0; 256];
-    let a = precoder::phases(r, &ones[..bytes], 255, &zeros[..ports], &mut phases);
-    let n = text::answer(a, &phases, out);
-    given(answer_by(a), n)
+    let site = Site {
+        mask: &ones[..bytes],
+        ranks: 255,
+        offsets: &zeros[..ports],
+    };
+    let a = precoder::entries(r, site, &mut phases);
+    given(answer_by(a), text::answer(a, &phases, out))
 }
 
 // Answers a line by text, with all bits of both masks ones and all offsets 0: `ok`, P, v and the scale, and then a line of
 // phases for each layer; or `refused` and the number; or `unreadable`. Each line ends with a newline. The text stands at the
-// front of the lent buffer, and bytes after it stay. Where the text has more bytes than are lent, the answer is NoRoom and
-// every byte stays. The line `2 1 1 2 7 0 1 0` and a newline gives `ok 4 2 8`, `0 336 0 336` and `0 144 192 336`.
-pub fn print(line: &[u8], out: &mut [u8]) -> Printed
+// front of the lent buffer, and bytes after it stay. Where the text has more bytes than are lent, None is given and every
+// byte stays. The line `2 1 1 2 7 0 1 0` and a newline gives `ok 4 2 8`, `0 336 0 336` and `0 144 192 336`.
+pub fn print(line: &[u8], out: &mut [u8]) -> Option<Printed>
     ensures { Prints line.now out.old result out.new }
 {
-    if let Reading::Read(r) = line::read(line) {
-        return answer_to(r, out);
+    match line::read(line) {
+        Some(r) => answer_to(r, out),
+        None => given(Answer::Unreadable, text::unreadable(out)),
     }
-    let n = text::unreadable(out);
-    given(Answer::Unreadable, n)
 }

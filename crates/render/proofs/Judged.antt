@@ -1,29 +1,27 @@
 -- A report that was judged, of any lawful codebook: refused it leaves all as lent, and else what is written of its drawing
 -- is the answer.
-use mathlib.Core.Path.{◌≡◌, refl, sym, subst}
+use mathlib.Core.Path.{◌≡◌, refl, sym, ap, subst, ◌∙◌}
 use mathlib.Core.List.{List}
-use Prim.Native.Nat.{ℕ, ◌*◌, ◌/◌, ◌≤◌}
-use native.Mathlib.Omega.{arith}
-use lib.IntN.{ℤ}
-use lib.ListN.{length}
+use Prim.Native.Nat.{ℕ, ◌*◌, ◌≤◌}
+use Rattle.std.specs.Prelude.{Ok, Err}
 use Rattle.ground.specs.Lists.{over}
+use Rattle.refusal.specs.declared.Refusal.{Refusal}
+use Rattle.plan.specs.declared.Accepted.{Accepted}
 use Rattle.plan.specs.declared.Drawing.{Drawing}
-use Rattle.plan.specs.declared.Judged.{Judged}
 use Rattle.plan.specs.Plan.{Plan}
 use Rattle.plan.specs.Offsets.{fed_matrix}
 use Rattle.plan.specs.Sound.{Sound}
-use Rattle.plan.specs.Answer.{Codebook, planned, asked, refusal, Answers, weights_of, judged_by}
+use Rattle.plan.specs.Answer.{Codebook, refused, planned, asked, refusal, Answers, judged_by}
 use Rattle.plan.specs.Lawful.{Lawful}
 use Rattle.plan.specs.Drawing.{Draws}
 use Rattle.plan.proofs.Answers as answers
-use Rattle.plan.proofs.Accepted.{accepted_in_range, accepted_fits}
-use Rattle.render.specs.Rendered.{fitting, weights_in}
+use Rattle.plan.proofs.Passed.{accepted_in_range, accepted_fits}
+use Rattle.render.specs.Rendered.{fitting}
 use Rattle.render.proofs.Planned as written
 
 module _ {R : Type 0} (b : Codebook R) {InRange : R → Type 0} (lawful : Lawful b InRange)
     (drawing_of : R → Drawing) (drawing_draws : (r : R) → InRange r → Draws (b.plan r) (drawing_of r))
-    (r : R) (mask : List ℕ) (ranks : ℕ) (offsets : List ℕ) (room : ℕ) {c : Judged}
-    (e : c ≡ judged_by (planned (b.plan r)) (drawing_of r) (refusal b (asked r mask ranks offsets room))) where
+    (r : R) (mask : List ℕ) (ranks : ℕ) (offsets : List ℕ) (room : ℕ) where
   abbrev number : ℕ
   number = refusal b (asked r mask ranks offsets room)
 
@@ -31,13 +29,14 @@ module _ {R : Type 0} (b : Codebook R) {InRange : R → Type 0} (lawful : Lawful
   plan = b.plan r
 
   -- refused
-  pub refused_answers : {A : Type 0} (answer lent : List A) → (c.given.refusal ≡ 0 → ⊥)
-      → Answers number (planned plan) answer lent c.given lent
-  refused_answers = answers.answers_refused number (planned plan) refl (drawing_of r) e
+  pub refused_answers : {A : Type 0} (answer lent : List A) {e : Refusal}
+      → judged_by (planned plan) (drawing_of r) number ≡ Err e
+      → Answers number (planned plan) answer lent (refused e.number) lent
+  refused_answers = answers.answers_refused (planned plan) (drawing_of r) number
 
-  module _ (z : c.given.refusal ≡ 0) where
+  module _ {c : Accepted} (j : judged_by (planned plan) (drawing_of r) number ≡ Ok c) where
     accepted : (number ≡ 0) × (c.given ≡ planned plan) × (c.drawing ≡ drawing_of r)
-    accepted = answers.judged_accepted number (planned plan) refl (drawing_of r) e z
+    accepted = answers.judged_accepted (planned plan) (drawing_of r) number j
 
     pub in_range : InRange r
     in_range = accepted_in_range b lawful r mask ranks offsets room accepted.0
@@ -52,18 +51,11 @@ module _ {R : Type 0} (b : Codebook R) {InRange : R → Type 0} (lawful : Lawful
     fits : plan.v * plan.ports ≤ room
     fits = accepted_fits b lawful r mask ranks offsets room accepted.0
 
-    -- what is written is the answer of `phases`
-    pub phases_answer : {lent left : List ℕ} → length lent ≡ room → left ≡ over (fitting offsets c.drawing (length lent)) lent
-        → Answers number (planned plan) (fed_matrix offsets plan) lent c.given left
-    phases_answer {lent} l f =
-        let is = written.fitting_is offsets plan c.drawing sound draws (length lent) (omega (arith, fits)) in
-        answers.answers_accepted number (planned plan) refl (drawing_of r) e z (fed_matrix offsets plan) lent _ refl (rw is at f)
-
-    -- and of `weights`
-    pub weights_answer : {lent left : List ℤ} → length lent / 2 ≡ room
-        → left ≡ over (weights_in offsets c.drawing (length lent)) lent
-        → Answers number (planned plan) (weights_of b offsets r) lent c.given left
-    unfolding weights_of
-    weights_answer {lent} l f =
-        let are = written.weights_are offsets plan c.drawing sound draws (length lent) (omega (arith, fits)) in
-        answers.answers_accepted number (planned plan) refl (drawing_of r) e z (weights_of b offsets r) lent _ refl (rw are at f)
+    -- what is written is the answer, whatever numbers stand for entries
+    pub entries_answer : {A : Type 0} (numbers_of : List ℕ → List A) {lent left : List A}
+        → left ≡ over (numbers_of (fitting offsets c.drawing room)) lent
+        → Answers number (planned plan) (numbers_of (fed_matrix offsets plan)) lent c.given left
+    entries_answer {A} numbers_of {lent} f =
+        let is = ap numbers_of (written.fitting_is offsets plan c.drawing sound draws room fits) in
+        answers.answers_accepted (planned plan) (drawing_of r) number j (numbers_of (fed_matrix offsets plan)) lent _ refl
+        (f ∙ ap (λ (xs : List A). over xs lent) is)

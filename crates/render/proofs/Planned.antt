@@ -1,14 +1,13 @@
 -- The drawing of a sound plan: what is written of it is the precoder, with the offsets of its ports.
 use mathlib.Core.Path.{◌≡◌, sym, ap, ◌∙◌}
-use mathlib.Core.List.{List, map}
-use Prim.Native.Nat.{ℕ, ◌+◌, ◌*◌, ◌/◌, ◌≤◌}
+use mathlib.Core.List.{List}
+use Prim.Native.Nat.{ℕ, ◌+◌, ◌*◌, ◌≤◌}
 use native.Mathlib.Nat.{mul_assoc, mul-le-mul, mul-le-mul_right}
 use native.Mathlib.Omega.{arith}
 use lib.ListN.{length}
 use borrow.Author.Rules.{rules}
 use borrow.Author.Tests.{le-leb}
 use Rattle.turn.proofs.Steps.{left_pos}
-use Rattle.weight.specs.Table.{weight, numbers}
 use Rattle.plan.specs.declared.Drawing.{Drawing}
 use Rattle.plan.specs.Plan.{Plan}
 use Rattle.plan.specs.Offsets.{fed_matrix}
@@ -17,7 +16,7 @@ use Rattle.plan.specs.Drawing.{entries, height, layers_in, Draws}
 use Rattle.plan.proofs.FedMatrix.{length_fed_matrix}
 use Rattle.writer.proofs.Drawn.{drawn_matrix, sizes_drawable}
 use Rattle.writer.proofs.Room.{layers_drawn}
-use Rattle.render.specs.Rendered.{fitting, weighed, weights_in}
+use Rattle.render.specs.Rendered.{fitting}
 
 -- no beam of a sound plan is without entries
 module _ (p : Plan) (sound : Sound p) where
@@ -59,8 +58,3 @@ module _ (os : List ℕ) (p : Plan) (s : Drawing) (sound : Sound p) (draws : Dra
   unfolding fitting
   fitting_is room h =
       rw (layers_are 272 (omega (arith, entries_few)), le-leb (length (fed_matrix os p)) room (omega (arith, length_fed_matrix os p sound)))
-
-  -- and its weights
-  pub weights_are : (room : ℕ) → p.v * p.ports ≤ room / 2 → weights_in os s room ≡ numbers (map weight (fed_matrix os p))
-  unfolding weights_in weighed
-  weights_are room h = rw (fitting_is (room / 2) h)

@@ -1,62 +1,47 @@
--- The weights of phases, stored over a lent list, two numbers each.
-use mathlib.Core.Path.{◌≡◌, refl, sym, ap, ◌∙◌}
-use mathlib.Core.Bool.{Bool, true, false, cond}
-use mathlib.Core.List.{List, [], ◌++◌, map}
-use Prim.Native.Nat.{ℕ, ◌+◌, ◌*◌, ◌<◌, ◌≤◌}
+-- The weights that are looked up, stored over a lent list, two numbers each.
+use mathlib.Core.Path.{◌≡◌, sym, ap, ◌∙◌}
+use mathlib.Core.List.{List, ◌++◌, map}
+use Prim.Native.Nat.{ℕ, ◌+◌, ◌*◌, ◌%◌, ◌<◌, ◌≤◌}
 use native.Mathlib.Omega.{arith}
 use lib.IntN.{ℤ}
 use lib.ListN.{length, take, drop, set, get_or, length-map, get_or-map}
-use lib.Seq.{length-take-le, get_or-take}
 use Rattle.ground.proofs.Written.{stored}
 use Rattle.weight.specs.declared.Weight.{Weight}
-use Rattle.weight.specs.Table.{weight, numbers}
+use Rattle.weight.specs.Table.{entry}
 use Rattle.weight.proofs.Pairs.{length_numbers, numbers_x, numbers_y}
-use Rattle.render.specs.Rendered.{weighed}
+use Rattle.render.specs.Rendered.{looked_up}
 
-pub length_weighed : (xs : List ℕ) → length (weighed xs) ≡ 2 * length xs
-unfolding weighed
-length_weighed xs = length_numbers _ ∙ ap (λ (m : ℕ). 2 * m) (length-map xs weight)
+pub length_looked_up : (xs : List ℕ) → length (looked_up xs) ≡ 2 * length xs
+unfolding looked_up
+length_looked_up xs = length_numbers _ ∙ ap (λ (m : ℕ). 2 * m) (length-map xs (λ e. entry (e % 512)))
 
--- nothing has no weights
-pub weighed_fitting : (t : Bool) (xs : List ℕ) → cond t (weighed xs) [] ≡ weighed (cond t xs [])
-unfolding weighed numbers
-weighed_fitting true xs = refl
-weighed_fitting false xs = refl
+module _ (phases : List ℕ) (d : List ℤ) (i : ℕ) (k : i < length phases) (room : 2 * length phases ≤ length d) where
+  abbrev here : Weight
+  here = entry (get_or phases i 0 % 512)
 
-module _ (phases : List ℕ) (n : ℕ) (h : n ≤ length phases) where
-  abbrev pub expanded : List ℤ
-  expanded = weighed (take n phases)
+  -- one weight more is stored: x, and y after it
+  pub weight_stored : {o : List ℤ} {x y : ℤ} → o ≡ take (2 * i) (looked_up phases) ++ drop (2 * i) d → x ≡ here.x → y ≡ here.y
+      → set (set o (2 * i) x) (2 * i + 1) y ≡ take (2 * (i + 1)) (looked_up phases) ++ drop (2 * (i + 1)) d
+  unfolding looked_up
+  weight_stored {o} {x} {y} q ex ey =
+      let two : 2 * i + 1 + 1 ≡ 2 * (i + 1) = omega arith in
+      let long = length_looked_up phases in
+      rw two at
+      (stored d (looked_up phases) (2 * length phases) (2 * i + 1) past.y
+      (stored d (looked_up phases) (2 * length phases) (2 * i) past.x q (ex ∙ at_x) long (omega arith) room)
+      (ey ∙ at_y) long (omega arith) room)
+    where
+      past : Weight
+      past = entry 0
 
-  pub length_expanded : length expanded ≡ 2 * n
-  length_expanded = length_weighed (take n phases) ∙ ap (λ (m : ℕ). 2 * m) (length-take-le n phases h)
+      found : List Weight
+      found = map (λ e. entry (e % 512)) phases
 
-  module _ (d : List ℤ) (i at : ℕ) (k : i < n) (e : at ≡ 2 * i) (room : 2 * n ≤ length d) where
-    abbrev here : Weight
-    here = weight (get_or phases i 0)
+      weight_at : here ≡ get_or found i past
+      weight_at = sym (get_or-map (λ e. entry (e % 512)) phases i 0)
 
-    -- one weight more is stored: x, and y after it
-    pub weight_stored : {o : List ℤ} {x y : ℤ} → o ≡ take at expanded ++ drop at d → x ≡ here.x → y ≡ here.y
-        → set (set o at x) (at + 1) y ≡ take (at + 2) expanded ++ drop (at + 2) d
-    unfolding weighed
-    weight_stored {o} {x} {y} q ex ey =
-        let two : at + 1 + 1 ≡ at + 2 = omega arith in
-        rw two at
-        (stored d expanded (2 * n) (at + 1) past.y
-        (stored d expanded (2 * n) at past.x q (ex ∙ at_x) length_expanded (omega arith) room)
-        (ey ∙ at_y) length_expanded (omega arith) room)
-      where
-        past : Weight
-        past = weight 0
+      at_x : here.x ≡ get_or (looked_up phases) (2 * i) past.x
+      at_x = ap (λ (w : Weight). w.x) weight_at ∙ sym (numbers_x found past i)
 
-        weight_at : here ≡ get_or (map weight (take n phases)) i past
-        weight_at = sym (get_or-map weight (take n phases) i 0 ∙ ap weight (get_or-take n phases i 0 k))
-
-        at_x : here.x ≡ get_or expanded at past.x
-        at_x =
-            ap (λ (w : Weight). w.x) weight_at
-            ∙ sym (ap (λ (j : ℕ). get_or expanded j past.x) e ∙ numbers_x (map weight (take n phases)) past i)
-
-        at_y : here.y ≡ get_or expanded (at + 1) past.y
-        at_y =
-            ap (λ (w : Weight). w.y) weight_at
-            ∙ sym (ap (λ (j : ℕ). get_or expanded (j + 1) past.y) e ∙ numbers_y (map weight (take n phases)) past i)
+      at_y : here.y ≡ get_or (looked_up phases) (2 * i + 1) past.y
+      at_y = ap (λ (w : Weight). w.y) weight_at ∙ sym (numbers_y found past i)

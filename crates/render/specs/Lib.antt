@@ -1,3 +1,2 @@
--- What contracts cite: what a lent buffer holds afterwards, and phases that are looked up.
+-- What contracts cite: what a lent buffer holds afterwards.
 pub mod Rendered
-pub mod Lookup

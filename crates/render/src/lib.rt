@@ -1,10 +1,11 @@
 // The layers of a drawing, as phases or as weights, in a lent buffer. Knows no report and no codebook.
 #![tactic(auto)]
 
-ghost use Rattle.std.specs.Prelude.{◌≡◌, length, take};
-ghost use Rattle.ground.specs.Lists.{over};
-ghost use Rattle.render.specs.Rendered.{fitting, weighed_in, weights_in};
-ghost use Rattle.render.specs.Lookup.{InTurn};
+ghost use Rattle.std.specs.Prelude.{◌≡◌, refl, ℕ, ◌/◌, ◌<◌, ◌≤◌, List, [], leb, length};
+ghost use Rattle.ground.specs.Cases.{◌⇒◌∣◌};
+ghost use Rattle.ground.specs.Lists.{over, All};
+ghost use Rattle.turn.specs.Phase.{turn};
+ghost use Rattle.render.specs.Rendered.{fitting_in, fitting, weighed, weighed_nothing, looked_up, looked_up_phases};
 
 use plan::Drawing;
 use turn::Part;
@@ -18,58 +19,98 @@ const ROOM_FOR_FEW: usize = 48;
 // The room for the largest matrix: 8 layers of 32 ports, and sixteen more.
 const ROOM: usize = 272;
 
-// Writes the layers of a drawing, one after the other, to the front of `out`, in parts of a turn, to each entry the offset
-// of its port added. Entries after them stay as lent. Where the sizes are larger than any plan's, or the layers have more
-// entries than are lent, all of it stays.
-pub fn phases(s: Drawing, offsets: &[Part], out: &mut [Part])
-    ensures { out.new ≡ over (fitting offsets.now s (length out.old)) out.old }
-{
-    if out.len() <= FEW {
-        let mut small = [0; ROOM_FOR_FEW];
-        let n = writer::matrix(s, offsets, &mut small);
-        ground::copy_numbers(&small, n, out);
-        return;
-    }
-    let mut large = [0; ROOM];
-    let n = writer::matrix(s, offsets, &mut large);
-    ground::copy_numbers(&large, n, out);
+// What numbers of a lent buffer stand for: a phase is one number, in parts of a turn, and a weight is two, x and then y.
+pub trait Entry: Copy {
+    // For how many entries so many numbers are room; the numbers that phases are written as; and what `put` writes, of any
+    // numbers.
+    ghost room_in: { ℕ → ℕ };
+
+    ghost numbers_of: { List ℕ → List Self };
+
+    ghost put_of: { List ℕ → List Self };
+
+    fn room(numbers: usize) -> usize
+        ensures { result ≡ room_in numbers };
+
+    // Writes phases to the front of `out`, where there is room for them. Otherwise all of it stays as lent.
+    fn put(phases: &[Part], out: &mut [Self])
+        ensures { out.new ≡ over (leb (length phases.now) (room_in (length out.old)) ⇒ put_of phases.now ∣ []) out.old };
+
+    ghost phases_put: { (phases : List ℕ) → All (λ e. e < turn) phases → put_of phases ≡ numbers_of phases };
+
+    ghost nothing: { numbers_of [] ≡ [] };
 }
 
-// The weights of the first n phases, where there is room for them: x and then y of each.
-fn expand(phases: &[Part], n: usize, out: &mut [i16])
-    requires { InTurn n phases.now }
-    ensures { out.new ≡ over (weighed_in (take n phases.now) (length out.old))
-        out.old }
-{
-    if out.len() / 2 < n {
-        return;
+impl Entry for Part {
+    ghost room_in = { λ numbers. numbers };
+
+    ghost numbers_of = { λ phases. phases };
+
+    ghost put_of = { λ phases. phases };
+
+    ghost phases_put = { λ phases below. refl };
+
+    ghost nothing = { refl };
+
+    fn room(numbers: usize) -> usize {
+        numbers
     }
-    let mut i = 0;
-    let mut at = 0;
-    while i < n {
-        let e = phases[i];
-        let w = lookup::weight_at(e);
-        let x = w.x;
-        let y = w.y;
-        out[at] = x;
-        out[at + 1] = y;
-        at += 2;
-        i += 1;
+
+    fn put(phases: &[Part], out: &mut [Part]) {
+        let n = phases.len();
+        if n <= out.len() {
+            out[..n].copy_from_slice(phases);
+        }
     }
 }
 
-// Writes the weights of a drawing's layers with offsets to the front of `out`: x and then y of each entry that `phases`
-// writes. Numbers after them stay as lent, and all of them where two numbers an entry are more than are lent.
-pub fn weights(s: Drawing, offsets: &[Part], out: &mut [i16])
-    ensures { out.new ≡ over (weights_in offsets.now s (length out.old)) out.old }
-{
-    if out.len() <= 2 * FEW {
-        let mut small = [0; ROOM_FOR_FEW];
-        let n = writer::matrix(s, offsets, &mut small);
-        expand(&small, n, out);
-        return;
+impl Entry for i16 {
+    ghost room_in = { λ numbers. numbers / 2 };
+
+    ghost numbers_of = { weighed };
+
+    ghost put_of = { looked_up };
+
+    ghost phases_put = { looked_up_phases };
+
+    ghost nothing = { weighed_nothing };
+
+    fn room(numbers: usize) -> usize {
+        numbers / 2
     }
-    let mut large = [0; ROOM];
-    let n = writer::matrix(s, offsets, &mut large);
-    expand(&large, n, out);
+
+    fn put(phases: &[Part], out: &mut [i16]) {
+        if phases.len() <= out.len() / 2 {
+            // By index, since a proof is told nothing of what is written through chunks.
+            for (i, &e) in phases.iter().enumerate() {
+                let w = lookup::weight_at(e);
+                out[2 * i] = w.x;
+                out[2 * i + 1] = w.y;
+            }
+        }
+    }
+}
+
+// The same by way of a buffer of its own.
+fn within<E: Entry, const OWN: usize>(s: Drawing, offsets: &[Part], out: &mut [E])
+    requires { OWN ≤ 272 }
+    ensures { out.new ≡ over (E.numbers_of (fitting_in offsets.now s OWN (E.room_in (length out.old)))) out.old }
+{
+    let mut own = [0; OWN];
+    if let Some(n) = writer::matrix(s, offsets, &mut own) {
+        E::put(&own[..n], out);
+    }
+}
+
+// Writes the layers of a drawing, one after the other, to the front of `out`, to each entry the offset of its port added.
+// Numbers after them stay as lent. Where the sizes are larger than any plan's, or the layers have more entries than `out` has
+// room for, all of it stays.
+pub fn entries<E: Entry>(s: Drawing, offsets: &[Part], out: &mut [E])
+    ensures { out.new ≡ over (E.numbers_of (fitting offsets.now s (E.room_in (length out.old)))) out.old }
+{
+    if E::room(out.len()) <= FEW {
+        within::<E, ROOM_FOR_FEW>(s, offsets, out);
+    } else {
+        within::<E, ROOM>(s, offsets, out);
+    }
 }

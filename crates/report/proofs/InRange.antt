@@ -1,9 +1,9 @@
 -- A report is in range just where none of its own refusals applies, and then its numbers are small.
 use mathlib.Core.Path.{◌≡◌}
 use mathlib.Core.Bool.{false, ◌&&◌}
-use Prim.Native.Nat.{ℕ, ◌/◌, ◌<◌, ◌≤◌}
+use Prim.Native.Nat.{◌/◌, ◌<◌, ◌≤◌}
 use native.Mathlib.Omega.{arith}
-use lib.Dec.{eqb, leb, lit<}
+use lib.Dec.{eqb, leb}
 use borrow.Author.Tests.{not-false, leb-false, lt-leb, eq-eqb}
 use Rattle.ground.specs.Lists.{among}
 use Rattle.ground.specs.First.{first, numbered, None}
@@ -15,7 +15,7 @@ use Rattle.settings.proofs.Known.{known, one_by_one}
 use Rattle.settings.proofs.Ranked.{rank_of, i11_few, i12_few, i2_within}
 use Rattle.report.specs.declared.Report.{Report}
 use Rattle.report.specs.Rules.{rule, own_order, InRange}
-use Rattle.report.specs.Beams.{in_mode_two, g, q}
+use Rattle.report.specs.Beams.{in_mode_two, q}
 
 pub in_range : (r : Report) → None (rule r) own_order → InRange r
 unfolding rule among
@@ -52,9 +52,6 @@ unfolding numbered
 zero_in_range r e = in_range r (first_none (rule r) own_order tt e)
 
 -- ---- its numbers
-
-pub g_some : (v : ℕ) → 0 < g v
-g_some v = cond_both (λ n. 0 < n) (eqb v 1) (lit< tt) (lit< tt)
 
 module _ (r : Report) (h : InRange r) where
   pub v_some : 1 ≤ r.v

@@ -13,17 +13,13 @@ use Rattle.settings.specs.declared.Sizes.{Sizes}
 use Rattle.settings.specs.Ranges.{beam, half_length, k_rows}
 use Rattle.report.specs.declared.Report.{Report}
 use Rattle.report.specs.declared.Beams.{Beams}
-use Rattle.report.specs.Beams.{is_half, base, moves, moved, beams, said_of}
+use Rattle.report.specs.Beams.{is_half, base, moves, moved, beams, said_of, said_all}
 
 -- ---- which ranks have half-length beams
 
 pub whole_few : (r : Report) → r.v < 3 → is_half r ≡ false
 unfolding half_length
 whole_few r h = rw (lt-leb 3 r.v h)
-
-pub whole_many : (r : Report) → 4 < r.v → is_half r ≡ false
-unfolding half_length
-whole_many r h = rw (le-leb 3 r.v (omega arith), lt-leb r.v 4 h)
 
 -- ---- the moves
 
@@ -93,29 +89,26 @@ module _ (r : Report) where
 
 -- ---- what is said with beams that stand so, by rank
 
-abbrev pub said_all : Report → Sizes → Beams
-said_all r s = said_of r s (is_half r) (length (beams r)) (beams r)
-
 module _ (r : Report) (s : Sizes) {y : Beams} {a : Beam} (first : a ≡ moved r (base r) (beam 0 0)) where
-  pub said_single : {half : Bool} → y ≡ said_of r s half 1 (a ∷ beam 0 0 ∷ beam 0 0 ∷ beam 0 0 ∷ [])
-      → is_half r ≡ half → (eqb r.v 1 || half) ≡ true → r.v ≤ 4 → y ≡ said_all r s
+  pub said_single : y ≡ said_of r s (is_half r) 1 (a ∷ beam 0 0 ∷ beam 0 0 ∷ beam 0 0 ∷ [])
+      → (eqb r.v 1 || is_half r) ≡ true → r.v ≤ 4 → y ≡ said_all r s
   unfolding beams
-  said_single p h alone few = p ∙ rw (moves_few_layers r few, h, alone, first)
+  said_single p alone few = p ∙ rw (moves_few_layers r few, alone, first)
 
-  pub said_two : {b : Beam} → y ≡ said_of r s false 2 (a ∷ b ∷ beam 0 0 ∷ beam 0 0 ∷ [])
-      → is_half r ≡ false → (r.v ≡ 1 → ⊥) → r.v ≤ 4
+  pub said_two : {b : Beam} → y ≡ said_of r s (is_half r) 2 (a ∷ b ∷ beam 0 0 ∷ beam 0 0 ∷ [])
+      → (r.v ≡ 1 → ⊥) → is_half r ≡ false → r.v ≤ 4
       → b ≡ moved r (base r) (get_or (k_rows r.n1 r.n2 r.v) r.i13 (beam 0 0)) → y ≡ said_all r s
   unfolding beams
-  said_two p h more few second = p ∙ rw (moves_few_layers r few, ne_eqb r.v 1 more, h, first, second)
+  said_two p more whole few second = p ∙ rw (moves_few_layers r few, ne_eqb r.v 1 more, whole, first, second)
 
   module _ {b : Beam} (second : b ≡ moved r (base r) (beam 1 0)) (many : 5 ≤ r.v) where
-    pub said_three : {c : Beam} → y ≡ said_of r s false 3 (a ∷ b ∷ c ∷ beam 0 0 ∷ []) → r.v ≤ 6
+    pub said_three : {c : Beam} → y ≡ said_of r s (is_half r) 3 (a ∷ b ∷ c ∷ beam 0 0 ∷ []) → r.v ≤ 6
         → c ≡ moved r (base r) (cond (ltb 1 r.n2) (beam 1 1) (beam 2 0)) → y ≡ said_all r s
     unfolding beams
-    said_three p few third = p ∙ rw (whole_many r many, moves_three r many few, first, second, third)
+    said_three p few third = p ∙ rw (moves_three r many few, first, second, third)
 
-    pub said_four : {c d : Beam} → y ≡ said_of r s false 4 (a ∷ b ∷ c ∷ d ∷ []) → 7 ≤ r.v
+    pub said_four : {c d : Beam} → y ≡ said_of r s (is_half r) 4 (a ∷ b ∷ c ∷ d ∷ []) → 7 ≤ r.v
         → c ≡ moved r (base r) (cond (ltb 1 r.n2) (beam 0 1) (beam 2 0))
         → d ≡ moved r (base r) (cond (ltb 1 r.n2) (beam 1 1) (beam 3 0)) → y ≡ said_all r s
     unfolding beams
-    said_four p more third fourth = p ∙ rw (whole_many r many, moves_four r more, first, second, third, fourth)
+    said_four p more third fourth = p ∙ rw (moves_four r more, first, second, third, fourth)

@@ -15,10 +15,10 @@ use Rattle.settings.specs.Ranges.{beam}
 use Rattle.settings.proofs.Known.{Known, known, one_by_one}
 use Rattle.report.specs.declared.Report.{Report}
 use Rattle.report.specs.declared.Beams.{Beams}
-use Rattle.report.specs.Beams.{is_half, base, moves, moved, beams, four, said_of}
+use Rattle.report.specs.Beams.{is_half, base, moves, moved, beams, four, said_of, said_all}
 use Rattle.report.specs.Rules.{InRange}
 use Rattle.report.proofs.InRange.{v_some, two_ports_v}
-use Rattle.report.proofs.Moves.{whole_few, length_moves, length_beams, said_all}
+use Rattle.report.proofs.Moves.{whole_few, length_moves, length_beams}
 
 abbrev pub origin : Beam
 origin = beam 0 0
@@ -42,7 +42,7 @@ beams_within r set i = go (moves r) i
     go (k ∷ ks) zero = record { l = mod-lt _ setting.across_some; m = mod-lt _ setting.down_some }
     go (k ∷ ks) (suc i) = go ks i
 
--- one number of each of four beams, by place
+-- what each of four beams has, by place
 pub four_at : (f : Beam → ℕ) (xs : List Beam) (i : ℕ) → i < 4 → get_or (four f xs) i 0 ≡ f (get_or xs i origin)
 four_at f xs zero h = refl
 four_at f xs (suc zero) h = refl
@@ -81,6 +81,6 @@ module _ (r : Report) (h : InRange r) (two : r.n1 ≡ 1) where
         | inr l ↦ rw (ne_eqb r.v 1 (λ q. omega arith)) (omega arith)
       ])
 
-  pub two_ports_said : (s : Sizes) {y : Beams} → y ≡ said_of r s false r.v (origin ∷ origin ∷ origin ∷ origin ∷ [])
+  pub two_ports_said : (s : Sizes) {y : Beams} → y ≡ said_of r s (is_half r) r.v (origin ∷ origin ∷ origin ∷ origin ∷ [])
       → y ≡ said_all r s
-  two_ports_said s p = p ∙ simp (two_ports_whole, two_ports_count, two_ports_beam)
+  two_ports_said s p = p ∙ simp (two_ports_count, two_ports_beam)

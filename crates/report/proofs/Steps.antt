@@ -1,19 +1,20 @@
 -- The row of k for i13; and no step and no beam is far: the code's arithmetic holds them.
+use mathlib.Core.List.{List, [], ◌∷◌}
 use mathlib.Core.Path.{◌≡◌, ap₂, ◌∙◌}
-use mathlib.Core.Bool.{Bool, true, false, ◌&&◌, ◌||◌}
-use Prim.Native.Nat.{ℕ, ◌+◌, ◌*◌, ◌≤◌}
+use mathlib.Core.Bool.{Bool, false, cond, ◌&&◌}
+use Prim.Native.Nat.{ℕ, zero, suc, ◌+◌, ◌*◌, ◌≤◌}
 use native.Mathlib.Nat.{add-zero, mul-zero, mod-lt, mod-add-mod}
 use native.Mathlib.Omega.{arith}
-use lib.Dec.{T, leb, ltb}
+use lib.Dec.{T, eqb, leb, ltb}
 use lib.ListN.{get_or}
-use borrow.Author.Tests.{ne_eqb, le-ltb, lt-leb}
-use Rattle.ground.specs.Lists.{each, every}
-use Rattle.ground.proofs.Tests.{or_else, two_le, every_at}
+use borrow.Author.Tests.{ne_eqb, lt-leb}
+use Rattle.ground.specs.Lists.{each}
+use Rattle.ground.proofs.Booleans.{cond_both}
+use Rattle.ground.proofs.Tests.{and_left, and_right, two_le}
 use Rattle.turn.specs.declared.Beam.{Beam}
-use Rattle.settings.specs.declared.Sizes.{Sizes}
-use Rattle.settings.specs.Settings.{settings, is_setting, ports, o1, o2, across, down, sizes_of}
-use Rattle.settings.specs.Ranges.{beam, half_length, k_two, k_three, k_rows, i13_values}
-use Rattle.settings.proofs.Known.{Known, known, above_two}
+use Rattle.settings.specs.Settings.{o1, o2, across, down}
+use Rattle.settings.specs.Ranges.{beam, k_two, k_three, k_rows}
+use Rattle.settings.proofs.Known.{Known, known}
 use Rattle.report.specs.declared.Report.{Report}
 use Rattle.report.specs.Rules.{InRange}
 use Rattle.report.specs.Beams.{is_half, base, moved, Small}
@@ -27,44 +28,33 @@ is_small_lem x t = let e = two_le x.l 255 x.m 255 t in record { l = e.0; m = e.1
 
 -- ---- the row of k for i13
 
-row : ℕ → ℕ → ℕ → ℕ → Beam
-row n1 n2 v i = get_or (k_rows n1 n2 v) i (beam 0 0)
+-- no row of a table is far, nor is what stands where there is none
+rows_small : (ks : List Beam) → T (each is_small ks) → (i : ℕ) → Small (get_or ks i (beam 0 0))
+unfolding each
+rows_small [] t i = is_small_lem (beam 0 0) tt
+rows_small (k ∷ ks) t zero = is_small_lem k (and_left (is_small k) (each is_small ks) t)
+rows_small (k ∷ ks) t (suc i) = rows_small ks (and_right (is_small k) (each is_small ks) t) i
 
--- from two layers on, at every setting and place
-tried : ℕ → ℕ → ℕ → Bool
-tried n1 n2 v = ltb v 2 || half_length (ports n1 n2) v || every (i13_values n1 n2 v) (λ i. is_small (row n1 n2 v i))
+pub k_small : (n1 n2 v i : ℕ) → Small (get_or (cond (eqb v 2) (k_two n1 n2) (k_three n1 n2)) i (beam 0 0))
+unfolding k_two k_three each
+k_small n1 n2 v i =
+    let small : List Beam → Type 0 = λ ks. T (each is_small ks) in
+    rows_small _
+    (cond_both small (eqb v 2)
+    (cond_both small (ltb 1 n2 && ltb n2 n1) tt
+    (cond_both small (ltb 1 n2 && eqb n1 n2) tt
+    (cond_both small (eqb n1 2) tt tt)))
+    (cond_both small (eqb n2 1 && eqb n1 2) tt
+    (cond_both small (eqb n2 1 && eqb n1 4) tt
+    (cond_both small (eqb n2 1) tt
+    (cond_both small (eqb n1 2) tt tt)))))
+    i
 
-module _ (r : Report) (more : r.n1 ≡ 1 → ⊥) where
-  pub row_small : InRange r → is_half r ≡ false → 2 ≤ r.v → r.v ≤ 4
-      → Small (get_or (k_rows r.n1 r.n2 r.v) r.i13 (beam 0 0))
-  unfolding row tried settings each every half_length k_two k_three k_rows i13_values
-  row_small h whole some few =
-      let n1 = r.n1 in
-      let n2 = r.n2 in
-      let v = r.v in
-      let ranks = above_two n1 n2 (λ a b. every 5 (tried a b)) tt h.setting more in
-      let places =
-      or_else (ltb v 2 || half_length (ports n1 n2) v) (every (i13_values n1 n2 v) (λ i. is_small (row n1 n2 v i)))
-      (λ z. rw (le-ltb v 2 some, whole) at z) (every_at 5 (tried n1 n2) ranks v (omega arith)) in
-      is_small_lem (row n1 n2 v r.i13) (every_at (i13_values n1 n2 v) (λ i. is_small (row n1 n2 v i)) places r.i13 h.i13)
-
-  -- it is one of the table for two layers, or of that for three and four
-  pub row_of_two : r.v ≡ 2
-      → get_or (k_two r.n1 r.n2) r.i13 (beam 0 0) ≡ get_or (k_rows r.n1 r.n2 r.v) r.i13 (beam 0 0)
-  unfolding k_rows half_length
-  row_of_two two = rw (two, ne_eqb r.n1 1 more)
-
-  pub row_of_more : is_half r ≡ false → 3 ≤ r.v → r.v ≤ 4
-      → get_or (k_three r.n1 r.n2) r.i13 (beam 0 0) ≡ get_or (k_rows r.n1 r.n2 r.v) r.i13 (beam 0 0)
-  unfolding k_rows
-  row_of_more whole some few =
-      rw (
-        whole,
-        ne_eqb r.n1 1 more,
-        ne_eqb r.v 1 (λ e. omega arith),
-        lt-leb 5 r.v (omega arith),
-        ne_eqb r.v 2 (λ e. omega arith),
-      )
+-- it is one of the table for two layers, or of that for three and four
+pub row_cases : (r : Report) → (r.n1 ≡ 1 → ⊥) → (r.v ≡ 1 → ⊥) → is_half r ≡ false → r.v ≤ 4
+    → k_rows r.n1 r.n2 r.v ≡ cond (eqb r.v 2) (k_two r.n1 r.n2) (k_three r.n1 r.n2)
+unfolding k_rows
+row_cases r more several whole few = rw (whole, ne_eqb r.n1 1 more, ne_eqb r.v 1 several, lt-leb 5 r.v (omega arith))
 
 -- ---- beams that are reduced
 
@@ -78,13 +68,7 @@ moved_small r h e =
       m = omega (arith, mod-lt ((base r).m + o2 r.n2 * 0) setting.down_some, setting.down_few);
     })
 
--- above two ports B may be moved by any small step
-pub base_movable : {r : Report} {s : Sizes} {x k : Beam} → InRange r → (r.n1 ≡ 1 → ⊥) → s ≡ sizes_of r.n1 r.n2
-    → x ≡ moved r (base r) (beam 0 0) → Small k
-    → (is_setting r.n1 r.n2 ≡ true) × (r.n1 ≡ 1 → ⊥) × (s ≡ sizes_of r.n1 r.n2) × Small x × Small k
-base_movable h more e b small = (h.setting, more, e, moved_small _ h b, small)
-
--- and stands where it would if it had not been reduced before
+-- and B stands where it would if it had not been reduced before
 moved_on : (r : Report) (x k : Beam) → moved r (moved r x (beam 0 0)) k ≡ moved r x k
 unfolding moved
 moved_on r x k =

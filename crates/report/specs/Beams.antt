@@ -1,10 +1,12 @@
 -- The beams of a report: B, and how far B', B'' and B''' stand from it.
-use Rattle.std.specs.Prelude.{Bool, false, ◌||◌, List, [], ◌∷◌, map, ℕ, zero, suc, ◌+◌, ◌*◌, ◌/◌, ◌%◌, ◌≤◌, eqb, leb, ltb, length, get_or}
+use Rattle.std.specs.Prelude.{Bool, ◌||◌, List, [], ◌∷◌, map, Result, ℕ, ◌+◌, ◌*◌, ◌/◌, ◌%◌, ◌≤◌, eqb, leb, ltb, length, get_or}
 use Rattle.ground.specs.Cases.{◌⇒◌∣◌}
 use Rattle.ground.specs.First.{first}
 use Rattle.turn.specs.declared.Beam.{Beam}
 use Rattle.settings.specs.declared.Sizes.{Sizes}
+use Rattle.settings.specs.declared.Refused.{Refused}
 use Rattle.settings.specs.Settings.{ports, o1, o2, across, down, sizes_of}
+use Rattle.settings.specs.Outcome.{told}
 use Rattle.settings.specs.Ranges.{beam, mode_two, half_length, k_rows}
 use Rattle.report.specs.declared.Report.{Report}
 use Rattle.report.specs.declared.Beams.{Beams}
@@ -59,49 +61,27 @@ moved r x k = beam ((x.l + o1 r.n1 * k.l) % across r.n1) ((x.m + o2 r.n2 * k.m) 
 unfoldable pub beams : Report → List Beam
 beams r = map (moved r (base r)) (moves r)
 
--- one number of each of four beams, 0 in unused places
-abbrev pub four : (Beam → ℕ) → List Beam → List ℕ
+-- what four beams have, (0,0) in unused places
+abbrev pub four : {A : Type 0} → (Beam → A) → List Beam → List A
 four f xs =
     f (get_or xs 0 (beam 0 0)) ∷ f (get_or xs 1 (beam 0 0)) ∷ f (get_or xs 2 (beam 0 0)) ∷ f (get_or xs 3 (beam 0 0)) ∷ []
 
--- what is said of a refused report, and of one whose beams are given
-abbrev pub refused_with : ℕ → Sizes → Beams
-refused_with k s = record {
-  refusal = k;
-  ports = s.ports;
-  across = s.across;
-  down = s.down;
-  bytes = s.bytes;
-  count = 0;
-  l = 0 ∷ 0 ∷ 0 ∷ 0 ∷ [];
-  m = 0 ∷ 0 ∷ 0 ∷ 0 ∷ [];
-  n = 0;
-  half = false;
-}
-
+-- what is said of a report whose beams are given
 abbrev pub said_of : Report → Sizes → Bool → ℕ → List Beam → Beams
-said_of r s half count xs = record {
-  refusal = 0;
-  ports = s.ports;
-  across = s.across;
-  down = s.down;
-  bytes = s.bytes;
-  count = count;
-  l = four (λ x. x.l) xs;
-  m = four (λ x. x.m) xs;
-  n = n r;
-  half = half;
-}
+said_of r s half count xs = record { sizes = s; beams = four (λ x. x) xs; count = count; n = n r; half = half }
 
 -- numbers far from the limits of the code's arithmetic
 pub record Small (x : Beam) : Type 0 where
   pub l : x.l ≤ 255
   pub m : x.m ≤ 255
 
--- what the report's own numbers say, by the number of its refusal
-abbrev pub said : Report → ℕ → Beams
-said r zero = said_of r (sizes_of r.n1 r.n2) (is_half r) (length (beams r)) (beams r)
-said r (suc k) = refused_with (suc k) (sizes_of r.n1 r.n2)
+-- what is said of one in range
+abbrev pub said_all : Report → Sizes → Beams
+said_all r s = said_of r s (is_half r) (length (beams r)) (beams r)
 
-unfoldable pub beams_of : Report → Beams
+-- what the report's own numbers say, by the number of its refusal
+abbrev pub said : Report → ℕ → Result Beams Refused
+said r k = told (said_all r (sizes_of r.n1 r.n2)) (sizes_of r.n1 r.n2) k
+
+unfoldable pub beams_of : Report → Result Beams Refused
 beams_of r = said r (first (rule r) own_order)

@@ -1,14 +1,26 @@
 // The beams B, B', B'' and B''' of a report.
-ghost use Rattle.std.specs.Prelude.{◌≡◌, true, false, [], ◌∷◌, ◌+◌, ◌*◌, ◌%◌, ◌≤◌, ltb, length, get_or};
-ghost use Rattle.ground.specs.Cases.{◌⇒◌∣◌};
-ghost use Rattle.settings.specs.Settings.{is_setting, sizes_of};
-ghost use Rattle.settings.specs.Ranges.{beam, k_rows};
+ghost use Rattle.std.specs.Prelude.{◌≡◌, ◌+◌, ◌*◌, ◌%◌, ◌≤◌};
+ghost use Rattle.settings.specs.Settings.{sizes_of};
+ghost use Rattle.settings.specs.Ranges.{beam};
 ghost use Rattle.report.specs.Rules.{InRange};
-ghost use Rattle.report.specs.Beams.{is_half, g, n, base, moved, beams, said_of, Small};
+ghost use Rattle.report.specs.Beams.{is_half, g, n, base, moved, said_all, Small};
 
 use crate::{Beams, Report};
+use rows::{K01, K10, K11, K20, K30};
 use settings::Sizes;
 use turn::Beam;
+
+// In unused places.
+const NONE: Beam = Beam { l: 0, m: 0 };
+
+// A report in range, and what follows from its setting.
+#[derive(Clone, Copy)]
+pub struct Ranged {
+    pub report: Report,
+    pub sizes: Sizes,
+    ghost in_range: { InRange report },
+    ghost sizes_are: { sizes ≡ sizes_of report.n1 report.n2 },
+}
 
 // g of mode 2.
 fn g_of(v: u32) -> u32
@@ -18,37 +30,14 @@ fn g_of(v: u32) -> u32
 }
 
 // n of f(n).
+#[tactic(auto, unfolding(crate::specs::Beams::n))]
 fn n_of(r: Report) -> u32
     ensures { result ≡ n r }
 {
     if settings::is_mode_two(r.n1, r.mode, r.v) {
-        return r.i2 % g_of(r.v);
-    }
-    r.i2
-}
-
-// B, reduced. In mode 2 with N2 = 1 alone it may stand past the last beam.
-fn base_of(r: Report, s: Sizes, half: bool) -> Beam
-    requires { InRange r × (s ≡ sizes_of r.n1 r.n2) × (half ≡ is_half r) }
-    ensures { result ≡ moved r (base r) (beam 0 0) }
-{
-    let l = 2 * r.i11;
-    if half {
-        return Beam { l: l, m: r.i12 };
-    }
-    if !settings::is_mode_two(r.n1, r.mode, r.v) {
-        return Beam { l: r.i11, m: r.i12 };
-    }
-    let q = r.i2 / g_of(r.v);
-    if 1 < r.n2 {
-        return Beam {
-            l: l + q % 2,
-            m: 2 * r.i12 + q / 2,
-        };
-    }
-    Beam {
-        l: (l + q) % s.across,
-        m: 0,
+        r.i2 % g_of(r.v)
+    } else {
+        r.i2
     }
 }
 
@@ -60,97 +49,102 @@ fn moved_along(x: u32, k: u32, w: u32) -> u32
     (x + 4 * k) % w
 }
 
-// A beam moved by k steps of (O1,O2), reduced. For N2 = 1 there is one m, whatever O2.
-fn moved_by(r: Report, s: Sizes, x: Beam, k: Beam) -> Beam
-    requires { (is_setting r.n1 r.n2 ≡ true) × (r.n1 ≡ 1 → ⊥) × (s ≡ sizes_of r.n1 r.n2)
-        × Small x × Small k }
-    ensures { result ≡ moved r x k }
-{
-    Beam {
-        l: moved_along(x.l, k.l, s.across),
-        m: moved_along(x.m, k.m, s.down),
+impl Ranged {
+    fn is_half(&self) -> bool
+        ensures { result ≡ is_half self.now.report }
+    {
+        settings::is_half_length(self.sizes.ports, self.report.v)
     }
-}
 
-// What is said of a report with so many of four beams.
-fn said(r: Report, s: Sizes, half: bool, count: u32, a: Beam, b: Beam, c: Beam, d: Beam) -> Beams
-    ensures { result ≡ said_of r s half count (a ∷ b ∷ c ∷ d ∷ []) }
-{
-    Beams {
-        refusal: 0,
-        ports: s.ports,
-        across: s.across,
-        down: s.down,
-        bytes: s.bytes,
-        count: count,
-        l: [a.l, b.l, c.l, d.l],
-        m: [a.m, b.m, c.m, d.m],
-        n: n_of(r),
-        half: half,
+    // B, reduced. In mode 2 with N2 = 1 alone it may stand past the last beam.
+    fn base(&self) -> Beam
+        ensures { result ≡ moved self.now.report (base self.now.report) (beam 0 0) }
+    {
+        let r = self.report;
+        let l = 2 * r.i11;
+        if self.is_half() {
+            return Beam { l, m: r.i12 };
+        }
+        if !settings::is_mode_two(r.n1, r.mode, r.v) {
+            return Beam { l: r.i11, m: r.i12 };
+        }
+        let q = r.i2 / g_of(r.v);
+        if 1 < r.n2 {
+            return Beam {
+                l: l + q % 2,
+                m: 2 * r.i12 + q / 2,
+            };
+        }
+        Beam {
+            l: (l + q) % self.sizes.across,
+            m: 0,
+        }
     }
-}
 
-// The row of k for i13 at v = 2 to 4, above two ports and without half-length beams.
-fn k_row(r: Report) -> Beam
-    requires { InRange r × (r.n1 ≡ 1 → ⊥) × (is_half r ≡ false) × (2 ≤ r.v) × (r.v ≤ 4) }
-    ensures { result ≡ get_or (k_rows r.n1 r.n2 r.v) r.i13 (beam 0 0) }
-{
-    if r.v == 2 {
-        return rows::k_two(r.n1, r.n2, r.i13);
+    // A beam moved by k steps of (O1,O2), reduced. For N2 = 1 there is one m, whatever O2.
+    fn moved(&self, x: Beam, k: Beam) -> Beam
+        requires { Small x × Small k }
+        ensures { result ≡ moved self.now.report x k }
+    {
+        Beam {
+            l: moved_along(x.l, k.l, self.sizes.across),
+            m: moved_along(x.m, k.m, self.sizes.down),
+        }
     }
-    rows::k_three(r.n1, r.n2, r.i13)
-}
 
-// The step of B'' at v = 5 and 6.
-fn k_third(n2: u32) -> Beam
-    ensures { result ≡ (ltb 1 n2 ⇒ beam 1 1 ∣ beam 2 0) }
-{
-    if n2 <= 1 {
-        return Beam { l: 2, m: 0 };
+    // What is said with so many of four beams.
+    #[inline(always)]
+    fn said(&self, count: u32, beams: [Beam; 4]) -> Beams
+        ensures { result ≡ record {
+          sizes = self.now.sizes;
+          beams = beams;
+          count = count;
+          n = n self.now.report;
+          half = is_half self.now.report;
+        } }
+    {
+        Beams {
+            sizes: self.sizes,
+            beams,
+            count,
+            n: n_of(self.report),
+            half: self.is_half(),
+        }
     }
-    Beam { l: 1, m: 1 }
-}
 
-// v = 5 to 8: a is B, reduced.
-fn choose_many(r: Report, s: Sizes, a: Beam) -> Beams
-    requires { InRange r × (s ≡ sizes_of r.n1 r.n2) × (a ≡ moved r (base r) (beam 0 0)) × (5 ≤ r.v) }
-    ensures { result ≡ said_of r s (is_half r) (length (beams r)) (beams r) }
-{
-    let b = moved_by(r, s, a, Beam { l: 1, m: 0 });
-    if r.v <= 6 {
-        let c = moved_by(r, s, a, k_third(r.n2));
-        return said(r, s, false, 3, a, b, c, Beam { l: 0, m: 0 });
+    // v = 5 to 8: a is B, reduced.
+    fn many(&self, a: Beam) -> Beams
+        requires { (a ≡ moved self.now.report (base self.now.report) (beam 0 0)) × (5 ≤ self.now.report.v) }
+        ensures { result ≡ said_all self.now.report self.now.sizes }
+    {
+        let wide = 1 < self.report.n2;
+        let b = self.moved(a, K10);
+        if self.report.v <= 6 {
+            let third = if wide { K11 } else { K20 };
+            return self.said(3, [a, b, self.moved(a, third), NONE]);
+        }
+        let third = if wide { K01 } else { K20 };
+        let fourth = if wide { K11 } else { K30 };
+        self.said(4, [a, b, self.moved(a, third), self.moved(a, fourth)])
     }
-    if r.n2 <= 1 {
-        let c = moved_by(r, s, a, Beam { l: 2, m: 0 });
-        let d = moved_by(r, s, a, Beam { l: 3, m: 0 });
-        return said(r, s, false, 4, a, b, c, d);
-    }
-    let c = moved_by(r, s, a, Beam { l: 0, m: 1 });
-    let d = moved_by(r, s, a, Beam { l: 1, m: 1 });
-    said(r, s, false, 4, a, b, c, d)
-}
 
-// The beams of a report. Two ports have no others than (0,0).
-pub fn choose(r: Report, s: Sizes) -> Beams
-    requires { InRange r × (s ≡ sizes_of r.n1 r.n2) }
-    ensures { result ≡ said_of r s (is_half r) (length (beams r)) (beams r) }
-{
-    let none = Beam { l: 0, m: 0 };
-    if r.n1 == 1 {
-        return said(r, s, false, r.v, none, none, none, none);
+    // The beams of the report. Two ports have no others than (0,0).
+    #[inline(always)]
+    pub fn beams(&self) -> Beams
+        ensures { result ≡ said_all self.now.report self.now.sizes }
+    {
+        let r = self.report;
+        if r.n1 == 1 {
+            return self.said(r.v, [NONE; 4]);
+        }
+        let a = self.base();
+        if 5 <= r.v {
+            return self.many(a);
+        }
+        if r.v == 1 || self.is_half() {
+            return self.said(1, [a, NONE, NONE, NONE]);
+        }
+        let b = self.moved(a, rows::k_of(r.n1, r.n2, r.v, r.i13));
+        self.said(2, [a, b, NONE, NONE])
     }
-    let half = settings::is_half_length(s.ports, r.v);
-    let a = base_of(r, s, half);
-    if 5 <= r.v {
-        return choose_many(r, s, a);
-    }
-    if r.v == 1 {
-        return said(r, s, false, 1, a, none, none, none);
-    }
-    if half {
-        return said(r, s, true, 1, a, none, none, none);
-    }
-    let b = moved_by(r, s, a, k_row(r));
-    said(r, s, false, 2, a, b, none, none)
 }

@@ -4,7 +4,8 @@
 ghost use Rattle.std.specs.Prelude.{◌≡◌};
 ghost use Rattle.report.specs.Beams.{beams_of};
 
-use settings::Ranges;
+use settings::{Refused, Sizes};
+use turn::Beam;
 
 mod choice;
 mod rules;
@@ -23,32 +24,27 @@ pub struct Report {
     pub i2: u32,
 }
 
-// What a report's own numbers say: the first of 1, 2, 4 and 6 to 9 that applies, and else 0; what its setting needs; and
-// where it is 0, how many beams the report has, l and m of B, B', B'', B''', reduced, n of f(n), and whether its beams are
-// of half length. Unused places are 0.
+// What the numbers of a report in range say: what follows from its setting; B, B', B'' and B''', reduced, (0,0) in unused
+// places, and how many it has, since nothing here is on a heap; n of f(n), and whether its beams are of half length.
 #[derive(Clone, Copy)]
 pub struct Beams {
-    pub refusal: u32,
-    pub ports: u32,
-    pub across: u32,
-    pub down: u32,
-    pub bytes: u32,
+    pub sizes: Sizes,
+    pub beams: [Beam; 4],
     pub count: u32,
-    pub l: [u32; 4],
-    pub m: [u32; 4],
     pub n: u32,
     pub half: bool,
 }
 
-// Judges a report by its own numbers, and gives its beams where they are in range. (2,1) with mode 1, two layers, i11 = 7,
-// i13 = 1 and the rest 0 has the beams (7,0) and (3,0).
-pub fn beams_of(r: Report) -> Beams
+// Judges a report by its own numbers, and gives its beams where they are in range; else the first of 1, 2, 4 and 6 to 9 that
+// applies. (2,1) with mode 1, two layers, i11 = 7, i13 = 1 and the rest 0 has the beams (7,0) and (3,0).
+#[inline(always)]
+pub fn beams_of(r: Report) -> Result<Beams, Refused>
     ensures { result ≡ beams_of r }
 {
-    let w = settings::ranges_of(r.n1, r.n2, r.mode, r.v);
-    let k = rules::refusal(r, w);
-    if k != 0 {
-        return rules::refused(k, w.sizes);
+    let ranges = settings::ranges_of(r.n1, r.n2, r.mode, r.v)?;
+    let sizes = ranges.sizes;
+    match rules::indices(r, ranges) {
+        Err(refusal) => Err(Refused { refusal, sizes }),
+        Ok(()) => Ok(choice::Ranged { report: r, sizes }.beams()),
     }
-    choice::choose(r, w.sizes)
 }

@@ -1,60 +1,29 @@
-// The refusals that need the report alone.
-ghost use Rattle.std.specs.Prelude.{◌≡◌};
-ghost use Rattle.ground.specs.First.{first};
-ghost use Rattle.settings.specs.Ranges.{ranges_of};
-ghost use Rattle.report.specs.Rules.{rule, own_order};
-ghost use Rattle.report.specs.Beams.{refused_with};
+// The refusals of the indices.
+ghost use Rattle.std.specs.Prelude.{◌≡◌, leb};
+ghost use Rattle.ground.specs.Cases.{◌⇒◌∣◌};
+ghost use Rattle.refusal.specs.Outcome.{outcome};
 
-use crate::{Beams, Report};
-use settings::{Ranges, Sizes};
+use crate::Report;
+use refusal::Refusal;
+use settings::Ranges;
 
-// The first of 1, 2, 4 and 6 to 9 that applies, or 0. Without ports the pair is no setting; without values of i2 the mode
-// is none, or else the rank.
-pub fn refusal(r: Report, w: Ranges) -> u32
-    requires { w ≡ ranges_of r.n1 r.n2 r.mode r.v }
-    ensures { result ≡ first (rule r) own_order }
+// The first of 6 to 9 that applies: an index has its values from 0 on.
+pub fn indices(r: Report, w: Ranges) -> Result<(), Refusal>
+    ensures { result ≡ outcome (
+        leb w.i11 r.i11 ⇒ 6 ∣ leb w.i12 r.i12 ⇒ 7 ∣ leb w.i13 r.i13 ⇒ 8 ∣ leb w.i2 r.i2 ⇒ 9 ∣ 0
+        ) }
 {
-    if w.sizes.ports == 0 {
-        return 1;
-    }
-    if w.i2 == 0 {
-        if r.mode == 0 {
-            return 2;
-        }
-        if 2 < r.mode {
-            return 2;
-        }
-        return 4;
-    }
     if w.i11 <= r.i11 {
-        return 6;
+        return Err(Refusal::I11_RANGE);
     }
     if w.i12 <= r.i12 {
-        return 7;
+        return Err(Refusal::I12_RANGE);
     }
     if w.i13 <= r.i13 {
-        return 8;
+        return Err(Refusal::I13_RANGE);
     }
     if w.i2 <= r.i2 {
-        return 9;
+        return Err(Refusal::I2_RANGE);
     }
-    0
-}
-
-// What is said of a refused report: its number, and what its setting needs.
-pub fn refused(k: u32, s: Sizes) -> Beams
-    ensures { result ≡ refused_with k s }
-{
-    Beams {
-        refusal: k,
-        ports: s.ports,
-        across: s.across,
-        down: s.down,
-        bytes: s.bytes,
-        count: 0,
-        l: [0; 4],
-        m: [0; 4],
-        n: 0,
-        half: false,
-    }
+    Ok(())
 }

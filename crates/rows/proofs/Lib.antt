@@ -1,3 +1,2 @@
--- Blanks of a column, and the theorem on what is public.
-pub mod Blanks
+-- The theorem on what is public.
 pub mod Unique

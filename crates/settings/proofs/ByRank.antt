@@ -1,9 +1,11 @@
--- The values of each index by rank: compared with their definitions at every setting, mode and rank.
+-- The values of each index by rank: compared with their definitions at every setting, mode and rank, and given where none of
+-- these is refused.
 use mathlib.Core.Path.{◌≡◌, sym, ap, subst, ◌∙◌}
 use mathlib.Core.Bool.{Bool, true, not, ◌&&◌, ◌||◌}
 use Prim.Native.Nat.{ℕ, ◌-◌, ◌/◌}
 use native.Mathlib.Omega.{arith}
 use lib.Dec.{T, eqb, leb, ltb, eqb→eq}
+use Rattle.std.specs.Prelude.{Ok, Some, None}
 use Rattle.ground.specs.Cases.{◌⇒◌∣◌}
 use Rattle.ground.specs.Lists.{each, every}
 use Rattle.ground.proofs.Booleans.{and_true_left, and_true_right}
@@ -13,8 +15,10 @@ use Rattle.settings.specs.declared.Sizes.{Sizes}
 use Rattle.settings.specs.Settings.{settings, is_setting, ports, across, down, mask_bytes, sizes_of}
 use Rattle.settings.specs.Ranges.{is_mode, is_rank, is_ranked, ranges_of, mode_two, half_length, k_two, k_three, k_rows}
 use Rattle.settings.specs.Ranges.{halves_i11, i11_values, halves_i12, i12_values, i13_values, i2_values}
+use Rattle.settings.specs.Outcome.{told, unranked}
 use Rattle.settings.proofs.Known.{at_setting}
 use Rattle.settings.proofs.Ranked.{mode_of, rank_of}
+use Rattle.settings.proofs.Steps.{sized, sizes_given}
 
 -- the values of i11, i12, i13 and i2
 abbrev Values : Type 0
@@ -103,3 +107,14 @@ module _ (n1 n2 mode v : ℕ) (ranked : is_ranked n1 n2 mode v ≡ true) where
       ap (λ (s : Sizes). given s (by_rank s n1 n2 mode v)) (e ∙ set)
       ∙ ap (λ (s : Sizes). given s (by_rank (sizes_at n1 n2) n1 n2 mode v)) (sym set)
       ∙ right_given (by_rank (sizes_at n1 n2) n1 n2 mode v) all_right
+
+-- no test turned the mode or the rank away, and the values are those of the rank
+pub ranked_told : (n1 n2 mode v : ℕ) {s : Sizes} {x : Ranges}
+    → Some s ≡ (is_setting n1 n2 ⇒ Some (sizes_of n1 n2) ∣ None)
+    → is_mode mode ≡ true → is_rank s.ports v ≡ true → x ≡ given s (by_rank s n1 n2 mode v)
+    → Ok x ≡ told (ranges_of n1 n2 mode v) (sizes_of n1 n2) (unranked n1 n2 mode v)
+ranked_told n1 n2 mode v {s} known m h e =
+    let set = sizes_given n1 n2 known in
+    let rank : is_rank (ports n1 n2) v ≡ true = rw (← (sized n1 n2 set.1 set.0).ports) h in
+    let none : unranked n1 n2 mode v ≡ 0 = rw (set.0, m, rank) in
+    rw none (ap Ok (e ∙ by_rank_lem n1 n2 mode v (rw (set.0, m, rank)) set.1))

@@ -31,7 +31,6 @@ pub record Known (n1 n2 : ℕ) : Type 0 where
   pub n1_few : n1 ≤ 16
   pub n2_some : 1 ≤ n2
   pub n2_few : n2 ≤ 4
-  pub antennas_some : 1 ≤ n1 * n2
   pub antennas : n1 * n2 ≤ 16
   pub across_some : 1 ≤ across n1
   pub down_some : 1 ≤ down n2
@@ -46,7 +45,6 @@ known n1 n2 e =
       n1_few = leb→le n1 16 (at_setting n1 n2 (λ n1 n2. leb n1 16) tt e);
       n2_some = leb→le 1 n2 (at_setting n1 n2 (λ n1 n2. leb 1 n2) tt e);
       n2_few = leb→le n2 4 (at_setting n1 n2 (λ n1 n2. leb n2 4) tt e);
-      antennas_some = leb→le 1 (n1 * n2) (at_setting n1 n2 (λ n1 n2. leb 1 (n1 * n2)) tt e);
       antennas = leb→le (n1 * n2) 16 (at_setting n1 n2 (λ n1 n2. leb (n1 * n2) 16) tt e);
       across_some = leb→le 1 (across n1) (at_setting n1 n2 (λ n1 n2. leb 1 (across n1)) tt e);
       down_some = leb→le 1 (down n2) (at_setting n1 n2 (λ n1 n2. leb 1 (down n2)) tt e);

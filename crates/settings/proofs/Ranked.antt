@@ -1,17 +1,16 @@
 -- Which settings, modes and ranks have ranges, and how large these are.
-use mathlib.Core.Path.{◌≡◌, refl, sym, subst}
+use mathlib.Core.Path.{◌≡◌, sym, subst}
 use mathlib.Core.Logic.{inl, inr}
-use mathlib.Core.Bool.{Bool, true, false, cond, ◌&&◌, ◌||◌}
+use mathlib.Core.Bool.{Bool, true, cond, ◌||◌}
 use Prim.Native.Nat.{ℕ, ◌/◌, ◌≤◌}
-use native.Mathlib.Nat.{eq-or-lt_of_le}
 use native.Mathlib.Omega.{arith}
 use lib.Dec.{T, eqb, ltb, eqb→eq, lit≤}
-use borrow.Author.Tests.{eq-eqb, ne_eqb, le-ltb, eqb-false, ltb-false, not-true}
-use Rattle.ground.proofs.Booleans.{is_false, cond_both, cond_each, or_false, and_true_left, and_true_right}
+use borrow.Author.Tests.{ne_eqb, le-ltb, eqb-false, ltb-false, not-true}
+use Rattle.std.proofs.lemmas.Bool.{or_parts}
+use Rattle.ground.proofs.Booleans.{cond_both}
 use Rattle.ground.proofs.Tests.{or_cases}
-use Rattle.settings.specs.declared.Sizes.{Sizes}
-use Rattle.settings.specs.Settings.{is_setting, ports, across, down, sizes_of}
-use Rattle.settings.specs.Ranges.{is_mode, is_rank, is_ranked, mode_two}
+use Rattle.settings.specs.Settings.{across, down}
+use Rattle.settings.specs.Ranges.{is_mode, is_rank, mode_two}
 use Rattle.settings.specs.Ranges.{halves_i11, i11_values, halves_i12, i12_values, i2_values}
 
 -- ---- what the tests say
@@ -25,8 +24,8 @@ pub record Rank (p v : ℕ) : Type 0 where
 module _ (p v : ℕ) where
   pub rank_of : is_rank p v ≡ true → Rank p v
   rank_of e =
-      let no = or_false (eqb v 0 || ltb 8 v) (ltb p v) (not-true _ e) in
-      let no-two = or_false (eqb v 0) (ltb 8 v) no.0 in
+      let no = or_parts (eqb v 0 || ltb 8 v) (ltb p v) (not-true _ e) in
+      let no-two = or_parts (eqb v 0) (ltb 8 v) no.0 in
       record {
         v_some = omega (arith, eqb-false v 0 no-two.0);
         v_few = ltb-false 8 v no-two.1;
@@ -43,30 +42,6 @@ module _ (mode : ℕ) where
     | inl q ↦ let e = eqb→eq mode 1 q in (omega arith, omega arith)
     | inr q ↦ let e = eqb→eq mode 2 q in (omega arith, omega arith)
   ]
-
-  pub of_mode : 1 ≤ mode → mode ≤ 2 → is_mode mode ≡ true
-  of_mode some few = elim (eq-or-lt_of_le few) [
-    | inl e ↦ rw (ne_eqb mode 1 (λ q. omega arith), eq-eqb mode 2 e)
-    | inr l ↦ rw (eq-eqb mode 1 (omega arith))
-  ]
-
-pub mode_and_rank : (p mode v : ℕ) → (is_mode mode && is_rank p v) ≡ true → (1 ≤ mode) × (mode ≤ 2) × Rank p v
-mode_and_rank p mode v e =
-    let m = mode_of mode (and_true_left (is_mode mode) (is_rank p v) e) in
-    (m.0, m.1, rank_of p v (and_true_right (is_mode mode) (is_rank p v) e))
-
--- ---- the ports tell whether the pair is a setting
-
-pub sizes_ports : (n1 n2 : ℕ) → (sizes_of n1 n2).ports ≡ cond (is_setting n1 n2) (ports n1 n2) 0
-sizes_ports n1 n2 = cond_each (λ (s : Sizes). s.ports) (is_setting n1 n2) refl refl
-
-pub ranked_by_ports : (n1 n2 mode v : ℕ)
-    → (is_mode mode && is_rank (sizes_of n1 n2).ports v) ≡ is_ranked n1 n2 mode v
-ranked_by_ports n1 n2 mode v = rw sizes_ports (go (is_setting n1 n2))
-  where
-    go : (b : Bool) → (is_mode mode && is_rank (cond b (ports n1 n2) 0) v) ≡ (b && is_mode mode && is_rank (ports n1 n2) v)
-    go true = refl
-    go false = sym (is_false (is_mode mode && is_rank 0 v) (λ e. omega (arith, mode_and_rank 0 mode v e)))
 
 -- ---- how many values each index has
 

@@ -1,4 +1,5 @@
--- 01's settings and ranges, in its order, and how many reports are in range.
+-- 01's settings and ranges, in its order, what is said of a report, and how many are in range.
 pub mod Settings
 pub mod Ranges
+pub mod Outcome
 pub mod Counts

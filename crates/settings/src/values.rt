@@ -1,56 +1,24 @@
 // How many values each index has.
 ghost use Rattle.std.specs.Prelude.{◌≡◌, not, ◌&&◌, ◌-◌, ◌/◌, eqb, leb, ltb};
 ghost use Rattle.ground.specs.Cases.{◌⇒◌∣◌};
-ghost use Rattle.settings.specs.Ranges.{is_mode, is_rank, mode_two, half_length};
+ghost use Rattle.settings.specs.Ranges.{mode_two, half_length};
 
 use crate::{Ranges, Sizes};
 
-// Mode 1 or 2, and 1 to 8 layers, at most P. A pair that is no setting has no ports, and so no rank.
-pub fn is_ranked(p: u32, mode: u32, v: u32) -> bool
-    ensures { result ≡ (is_mode mode && is_rank p v) }
-{
-    if mode == 0 {
-        return false;
-    }
-    if 2 < mode {
-        return false;
-    }
-    if v == 0 {
-        return false;
-    }
-    if 8 < v {
-        return false;
-    }
-    if p < v {
-        return false;
-    }
-    true
-}
-
 // Mode 2 acts on one and two layers, and not on two ports.
+#[tactic(auto, unfolding(crate::specs::Ranges::mode_two))]
 pub fn is_mode_two(n1: u32, mode: u32, v: u32) -> bool
     ensures { result ≡ mode_two n1 mode v }
 {
-    if mode != 2 {
-        return false;
-    }
-    if 2 < v {
-        return false;
-    }
-    n1 != 1
+    mode == 2 && v <= 2 && n1 != 1
 }
 
 // Three and four layers at 16 ports or more.
+#[tactic(auto, unfolding(crate::specs::Ranges::half_length))]
 pub fn is_half_length(p: u32, v: u32) -> bool
     ensures { result ≡ half_length p v }
 {
-    if v < 3 {
-        return false;
-    }
-    if 4 < v {
-        return false;
-    }
-    16 <= p
+    (3..=4).contains(&v) && 16 <= p
 }
 
 // Nothing halved, and two values of i2.
@@ -61,7 +29,7 @@ pub fn plain(s: Sizes, i13: u32) -> Ranges
         sizes: s,
         i11: s.across,
         i12: s.down,
-        i13: i13,
+        i13,
         i2: 2,
     }
 }
@@ -70,10 +38,7 @@ pub fn plain(s: Sizes, i13: u32) -> Ranges
 fn second_beams(p: u32) -> u32
     ensures { result ≡ (ltb p 8 ⇒ p / 2 ∣ 4) }
 {
-    if p < 8 {
-        return p / 2;
-    }
-    4
+    if p < 8 { p / 2 } else { 4 }
 }
 
 // One and two layers where mode 2 acts. One beam down is not halved.
@@ -86,23 +51,13 @@ fn in_mode_two(v: u32, s: Sizes) -> Ranges
       i2 = eqb v 1 ⇒ 16 ∣ 8;
     } }
 {
-    let i11 = s.across / 2;
-    let i12 = s.down - s.down / 2;
-    if v == 1 {
-        return Ranges {
-            sizes: s,
-            i11: i11,
-            i12: i12,
-            i13: 1,
-            i2: 16,
-        };
-    }
+    let one = v == 1;
     Ranges {
         sizes: s,
-        i11: i11,
-        i12: i12,
-        i13: second_beams(s.ports),
-        i2: 8,
+        i11: s.across / 2,
+        i12: s.down - s.down / 2,
+        i13: if one { 1 } else { second_beams(s.ports) },
+        i2: if one { 16 } else { 8 },
     }
 }
 
@@ -121,11 +76,8 @@ pub fn one_or_two(n1: u32, mode: u32, v: u32, s: Sizes) -> Ranges
     }
     if v == 1 {
         return Ranges {
-            sizes: s,
-            i11: s.across,
-            i12: s.down,
-            i13: 1,
             i2: 4,
+            ..plain(s, 1)
         };
     }
     plain(s, second_beams(s.ports))
@@ -141,23 +93,17 @@ pub fn three_or_four(s: Sizes) -> Ranges
       i2 = 2;
     } }
 {
-    let p = s.ports;
-    if 16 <= p {
+    if 16 <= s.ports {
         return Ranges {
-            sizes: s,
             i11: s.across / 2,
-            i12: s.down,
-            i13: 4,
-            i2: 2,
+            ..plain(s, 4)
         };
     }
-    if p == 8 {
-        return plain(s, 3);
+    match s.ports {
+        8 => plain(s, 3),
+        4 => plain(s, 1),
+        _ => plain(s, 4),
     }
-    if p == 4 {
-        return plain(s, 1);
-    }
-    plain(s, 4)
 }
 
 // Seven and eight layers. With N2 other than 2, (4,1) alone has eight ports.
@@ -170,26 +116,21 @@ pub fn seven_or_eight(n1: u32, n2: u32, s: Sizes) -> Ranges
       i2 = 2;
     } }
 {
+    let whole = plain(s, 1);
     if n2 == 2 {
         if 2 < n1 {
             return Ranges {
-                sizes: s,
-                i11: s.across,
                 i12: s.down / 2,
-                i13: 1,
-                i2: 2,
+                ..whole
             };
         }
-        return plain(s, 1);
+        return whole;
     }
     if s.ports == 8 {
         return Ranges {
-            sizes: s,
             i11: s.across / 2,
-            i12: s.down,
-            i13: 1,
-            i2: 2,
+            ..whole
         };
     }
-    plain(s, 1)
+    whole
 }

@@ -2,24 +2,24 @@
 -- layers which the code gives are the report's.
 use mathlib.Core.Path.{◌≡◌, sym, ap, ◌∙◌}
 use mathlib.Core.Bool.{true, false}
-use mathlib.Core.List.{map}
+use mathlib.Core.List.{List, map}
 use Prim.Native.Nat.{ℕ, ◌-◌, ◌*◌, ◌<◌, ◌≤◌}
 use native.Mathlib.Omega.{arith}
 use lib.Dec.{eqb}
 use lib.ListN.{get_or, replicate}
 use borrow.Author.Tests.{eqb-true, eqb-false}
+use Rattle.std.proofs.lemmas.List.{get_or_default}
 use Rattle.ground.specs.Cases.{◌⇒◌∣◌}
 use Rattle.ground.specs.Lists.{places}
 use Rattle.ground.proofs.Booleans.{either}
-use Rattle.ground.proofs.Lists.{map_twice, at_within, all_same, places_same}
+use Rattle.ground.proofs.Lists.{map_twice, all_same, places_same}
 use Rattle.turn.specs.declared.Beam.{Beam}
 use Rattle.settings.specs.Ranges.{beam}
 use Rattle.report.specs.declared.Report.{Report}
-use Rattle.report.specs.declared.Beams.{Beams}
 use Rattle.report.specs.Rules.{InRange}
-use Rattle.report.specs.Beams.{is_half, beams, said}
+use Rattle.report.specs.Beams.{is_half, beams}
 use Rattle.report.proofs.InRange.{v_few}
-use Rattle.report.proofs.Reached.{four_at, two_ports_beam}
+use Rattle.report.proofs.Reached.{two_ports_beam}
 use Rattle.plan.specs.Plan.{past, pair_of, no_beam, named}
 use Rattle.single.specs.Columns.{Name, B, B', B'', B''', by_rank, place}
 use Rattle.single.specs.Plan.{whole, layers, plan}
@@ -51,30 +51,25 @@ module _ (r : Report) (h : InRange r) where
 -- a rank of eight at most has its own columns
 ranked_own : (v : ℕ) → v ≤ 8 → ranked v ≡ brackets v
 unfolding ranked by_rank
-ranked_own v few = at_within by_rank (v - 1) _ _ (omega arith)
+ranked_own v few = get_or_default by_rank (v - 1) _ _ (omega arith)
 
-module _ (r : Report) (h : InRange r) {b : Beams} (e : b ≡ said r 0) where
-  -- the beam at a place, by the numbers that are handed over
-  abbrev told : ℕ → Beam
-  told i = beam (get_or b.l i 0) (get_or b.m i 0)
+place_few : (x : Name) → place x < 4
+place_few B = omega arith
+place_few B' = omega arith
+place_few B'' = omega arith
+place_few B''' = omega arith
 
-  told_is : (i : ℕ) → i < 4 → told i ≡ get_or (beams r) i (beam 0 0)
-  told_is i few = rw (e, four_at (λ x. x.l) (beams r) i few, four_at (λ x. x.m) (beams r) i few)
-
-  by_name : (x : Name) → told (place x) ≡ get_or (beams r) (place x) (beam 0 0)
-  by_name B = told_is 0 (omega arith)
-  by_name B' = told_is 1 (omega arith)
-  by_name B'' = told_is 2 (omega arith)
-  by_name B''' = told_is 3 (omega arith)
-
-  -- whole beams: that of each bracket of the rank
-  pub whole_lineup_lem : is_half r ≡ false → whole_lineup r.v b.l b.m ≡ lineup_of r
+module _ (r : Report) (h : InRange r) where
+  -- whole beams, each in its place: that of each bracket of the rank
+  pub whole_lineup_lem : (xs : List Beam)
+      → ((i : ℕ) → i < 4 → get_or xs i no_beam ≡ get_or (beams r) i no_beam) → is_half r ≡ false
+      → whole_lineup r.v xs ≡ lineup_of r
   unfolding named layers whole
-  whole_lineup_lem w =
+  whole_lineup_lem xs e w =
       rw (ranked_own r.v (v_few r h), w)
       (λ i. record {
         codes = codes_of r.v;
-        beams = places 8 no_beam (map_twice _ pair_of (whole r) (λ c. by_name c.beam) (brackets r.v) i);
+        beams = places 8 no_beam (map_twice _ pair_of (whole r) (λ c. e (place c.beam) (place_few c.beam)) (brackets r.v) i);
       })
 
   -- half-length beams: B for each of three layers or four
@@ -83,8 +78,8 @@ module _ (r : Report) (h : InRange r) {b : Beams} (e : b ≡ said r 0) where
       let (most, ports, least) = halved r half in
       either (eqb r.v 3) (λ t. rw t (sym (eqb-true r.v 3 t))) (λ f. rw f (omega (arith, eqb-false r.v 3 f)))
 
-  pub half_lineup_lem : is_half r ≡ true → half_lineup r.v (told 0) ≡ lineup_of r
+  pub half_lineup_lem : (x : Beam) → x ≡ get_or (beams r) 0 no_beam → is_half r ≡ true → half_lineup r.v x ≡ lineup_of r
   unfolding named
-  half_lineup_lem half =
-      let all = one_for_all r h (told 0) (λ j k. rw half (sym (told_is 0 (omega arith)))) in
+  half_lineup_lem x e half =
+      let all = one_for_all r h x (λ j k. rw half (sym e)) in
       rw (three_or_four half, half) (λ i. record { codes = half_codes; beams = places 8 no_beam (sym all i) })

@@ -8,10 +8,10 @@ use lib.Dec.{T, eqb, leb, ltb, eqb→eq, ltb→lt}
 use lib.ListN.{length, get_or, take, length-map}
 use lib.Seq.{length-take-le, get_or-take}
 use borrow.Author.Tests.{leb-true}
+use Rattle.std.proofs.lemmas.List.{get_or-map}
 use Rattle.ground.specs.Lists.{every, each}
 use Rattle.ground.proofs.Booleans.{either, and_true_left, and_true_right}
 use Rattle.ground.proofs.Tests.{or_else, every_at}
-use Rattle.ground.proofs.Lists.{map_at}
 use Rattle.turn.specs.declared.Beam.{Beam}
 use Rattle.settings.specs.Settings.{settings, ports}
 use Rattle.settings.specs.Ranges.{beam, half_length}
@@ -97,9 +97,9 @@ module _ (r : Report) (h : InRange r) where
         (λ e.
         let long = length-take-le r.v (halves r) (halved r e).0 in
         rw e
-        (map_at (quartered r) (take r.v (halves r)) j [] _ (omega arith)
+        (get_or-map (quartered r) (take r.v (halves r)) j [] _ (omega arith)
         ∙ ap (quartered r) (get_or-take r.v (halves r) j [] k)))
-        (λ e. let long = length_rank in rw e (map_at (whole r) (brackets r.v) j (B ⨾ f) _ (omega arith)))
+        (λ e. let long = length_rank in rw e (get_or-map (whole r) (brackets r.v) j (B ⨾ f) _ (omega arith)))
 
     -- its beam is one of the report's
     pub place_within : place_at r j < length (moves r)

@@ -8,10 +8,10 @@ use native.Mathlib.Nat.{add-zero, mul_comm}
 use native.Mathlib.Omega.{arith}
 use lib.Dec.{T, eqb, eqb→eq}
 use lib.ListN.{length, get_or, get_or-map}
+use Rattle.std.proofs.lemmas.List.{get_or-map as map_at}
 use Rattle.ground.specs.Lists.{each, all_nil, all_cons}
 use Rattle.ground.proofs.Booleans.{either, same_truth}
 use Rattle.ground.proofs.Tests.{and_left, and_right, or_cases, two_eq}
-use Rattle.ground.proofs.Lists.{map_at}
 use Rattle.turn.specs.declared.Beam.{Beam}
 use Rattle.turn.specs.Phase.{turn, quarter, twelfth, difference}
 use Rattle.turn.specs.Column.{Setting}

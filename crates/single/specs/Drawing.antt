@@ -5,7 +5,6 @@ use Rattle.ground.specs.Lists.{places}
 use Rattle.turn.specs.declared.Beam.{Beam}
 use Rattle.turn.specs.Phase.{turn, phase}
 use Rattle.settings.specs.Settings.{across, down}
-use Rattle.settings.specs.Ranges.{beam}
 use Rattle.report.specs.declared.Report.{Report}
 use Rattle.report.specs.Beams.{is_half, beams, four}
 use Rattle.plan.specs.declared.Drawing.{Drawing}
@@ -36,11 +35,11 @@ codes_of v = places 8 0 (map code_of (ranked v))
 abbrev pub half_codes : List ℕ
 half_codes = 256 ∷ 266 ∷ 268 ∷ 262 ∷ 0 ∷ 0 ∷ 0 ∷ 0 ∷ []
 
--- the layers of a rank whose whole beams are given, by l and m of B, B', B'' and B''': their codes, and their beams
-abbrev pub whole_lineup : ℕ → List ℕ → List ℕ → Lineup
-whole_lineup v l m = record {
+-- the layers of a rank whose whole beams B, B', B'' and B''' are given: their codes, and their beams
+abbrev pub whole_lineup : ℕ → List Beam → Lineup
+whole_lineup v xs = record {
   codes = codes_of v;
-  beams = places 8 no_beam (map (λ c. beam (get_or l (place c.beam) 0) (get_or m (place c.beam) 0)) (ranked v));
+  beams = places 8 no_beam (map (λ c. get_or xs (place c.beam) no_beam) (ranked v));
 }
 
 -- those of a half-length beam: three, or of any other rank four

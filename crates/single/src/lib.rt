@@ -9,9 +9,9 @@ use turn::Beam;
 
 // The codes of one to eight layers of whole beams: 512 times the place of a beam, 0 to 3 for B, B', B'', B'''; 256 more where
 // f is added to the second polarisation, and 2 more where half a turn is.
-pub const ONE: [u16; 8] = [256, 0, 0, 0, 0, 0, 0, 0]; // [B; f]
+const ONE: [u16; 8] = [256, 0, 0, 0, 0, 0, 0, 0]; // [B; f]
 
-pub const TWO: [u16; 8] = [256, 770, 0, 0, 0, 0, 0, 0]; // [B; f], [B'; f+½]
+const TWO: [u16; 8] = [256, 770, 0, 0, 0, 0, 0, 0]; // [B; f], [B'; f+½]
 
 const THREE: [u16; 8] = [256, 768, 258, 0, 0, 0, 0, 0]; // [B; f], [B'; f], [B; f+½]
 
@@ -28,76 +28,61 @@ const EIGHT: [u16; 8] = [256, 258, 768, 770, 1024, 1026, 1536, 1538]; // the sam
 // Those of a half-length beam: half a turn is added to quarters 2 and 4, 3 and 4, 2 and 3.
 const HALVES: [u16; 8] = [256, 266, 268, 262, 0, 0, 0, 0];
 
-// The layers of a rank with whole beams: l and m are those of B, B', B'' and B'''. A rank above eight has those of eight.
-pub fn of_whole_beams(v: u32, l: [u32; 4], m: [u32; 4]) -> Lineup
-    ensures { result ≡ whole_lineup v l m }
+// The layers of a rank with the whole beams B, B', B'' and B'''. A rank above eight has those of eight.
+#[tactic(auto, unfolding(crate::specs::Drawing::codes_of, crate::specs::Drawing::ranked, crate::specs::Columns::by_rank, ground::specs::Lists::places))]
+pub fn of_whole_beams(v: u32, beams: [Beam; 4]) -> Lineup
+    ensures { result ≡ whole_lineup v beams }
 {
     let none = Beam { l: 0, m: 0 };
-    let a = Beam { l: l[0], m: m[0] };
+    let [a, b, c, d] = beams;
+    // No arm of the `match`: so compiled, two ports with one layer miss their target in docs/SPEED.md.
     if v <= 1 {
         return Lineup {
             codes: ONE,
             beams: [a, none, none, none, none, none, none, none],
         };
     }
-    let b = Beam { l: l[1], m: m[1] };
-    if v == 2 {
-        return Lineup {
+    match v {
+        2 => Lineup {
             codes: TWO,
             beams: [a, b, none, none, none, none, none, none],
-        };
-    }
-    if v == 3 {
-        return Lineup {
+        },
+        3 => Lineup {
             codes: THREE,
             beams: [a, b, a, none, none, none, none, none],
-        };
-    }
-    if v == 4 {
-        return Lineup {
+        },
+        4 => Lineup {
             codes: FOUR,
             beams: [a, b, a, b, none, none, none, none],
-        };
-    }
-    let c = Beam { l: l[2], m: m[2] };
-    if v == 5 {
-        return Lineup {
+        },
+        5 => Lineup {
             codes: FIVE,
             beams: [a, a, b, b, c, none, none, none],
-        };
-    }
-    if v == 6 {
-        return Lineup {
+        },
+        6 => Lineup {
             codes: SIX,
             beams: [a, a, b, b, c, c, none, none],
-        };
-    }
-    let d = Beam { l: l[3], m: m[3] };
-    if v == 7 {
-        return Lineup {
+        },
+        7 => Lineup {
             codes: SEVEN,
             beams: [a, a, b, c, c, d, d, none],
-        };
-    }
-    Lineup {
-        codes: EIGHT,
-        beams: [a, a, b, b, c, c, d, d],
+        },
+        _ => Lineup {
+            codes: EIGHT,
+            beams: [a, a, b, b, c, c, d, d],
+        },
     }
 }
 
 // The layers of a half-length beam, which all have it: three, and four of any other rank.
+#[tactic(auto, unfolding(ground::specs::Lists::places))]
 pub fn of_half_length_beam(v: u32, a: Beam) -> Lineup
     ensures { result ≡ half_lineup v a }
 {
     let none = Beam { l: 0, m: 0 };
-    if v == 3 {
-        return Lineup {
-            codes: HALVES,
-            beams: [a, a, a, none, none, none, none, none],
-        };
-    }
+    let fourth = if v == 3 { none } else { a };
     Lineup {
         codes: HALVES,
-        beams: [a, a, a, a, none, none, none, none],
+        beams: [a, a, a, fourth, none, none, none, none],
     }
 }

@@ -1,6 +1,4 @@
 -- Laws that the proofs share, then theorems.
-pub mod Adds
-pub mod Writes
 pub mod Digits
 pub mod Words
 pub mod Lines

@@ -1,13 +1,14 @@
 -- The lines of a matrix and the first line of a text: how they are written, and how long they are.
-use mathlib.Core.Path.{◌≡◌, refl, ◌∙◌}
-use mathlib.Core.List.{List, [], ◌∷◌, ◌++◌, append-nil, append_assoc}
-use Prim.Native.Nat.{ℕ, zero, suc, ◌+◌, ◌-◌, ◌*◌, ◌%◌, ◌<◌, ◌≤◌}
-use native.Mathlib.Nat.{add-zero, add-suc, zero-mul, mul-zero}
+use mathlib.Core.Path.{◌≡◌, refl}
+use mathlib.Core.List.{List, [], ◌∷◌, ◌++◌, append_assoc}
+use Prim.Native.Nat.{ℕ, zero, suc, ◌+◌, ◌-◌, ◌*◌, ◌<◌, ◌≤◌}
+use native.Mathlib.Numerals.{add-one}
 use native.Mathlib.Omega.{arith}
-use lib.Arith.{digits_mod}
-use lib.Dec.{lit≤}
-use lib.ListN.{length, take, drop, get_or, length-append, length-take, length-drop, length-map}
+use lib.Dec.{lit≤, leb}
+use lib.ListN.{length, take, drop, get_or, length-append, length-take, length-drop, length-map, drop_of_length-le}
 use lib.Seq.{drop-cons}
+use borrow.Author.Tests.{leb-true, leb-false}
+use Rattle.ground.proofs.Booleans.{either}
 use Rattle.ground.specs.Lists.{All}
 use Rattle.ground.proofs.All.{all_take, all_drop}
 use Rattle.plan.specs.declared.Record.{Record}
@@ -19,33 +20,21 @@ use Rattle.text.proofs.Words.{ended_few, line_few}
 
 -- ---- lines for layers
 
--- the first i phases of lines of p
-unfoldable pub lines_begun : ℕ → ℕ → List ℕ → List ℕ
-lines_begun p zero xs = []
-lines_begun p (suc i) xs = lines_begun p i xs ++ ended (get_or xs i 0) (p - 1 - i % p)
+-- a line from a number on: that number, what follows it, and the line from the next on
+pub line_next : (xs : List ℕ) (i : ℕ) → i < length xs
+    → line_of (drop i xs) ≡ ended (get_or xs i 0) (length xs - 1 - i) ++ line_of (drop (i + 1) xs)
+unfolding line_of joined
+line_next xs i h =
+    let left : length xs - 1 - i ≡ length (drop (suc i) xs) = rw length-drop (omega arith) in
+    rw (drop-cons xs i 0 h, add-one i, left, length-map (drop (suc i) xs) decimal) (simp append_assoc)
+
+-- nothing is left of it after the last
+pub line_end : (xs : List ℕ) (i : ℕ) → length xs ≤ i → line_of (drop i xs) ≡ []
+unfolding line_of joined
+line_end xs i h = rw (drop_of_length-le xs h)
 
 module _ (p : ℕ) (xs : List ℕ) where
-  -- the last q numbers of line j
-  line_rest : (j i q : ℕ) → suc j * p ≤ length xs → i + q ≡ p
-      → lines_begun p (j * p + p) xs ≡ lines_begun p (j * p + i) xs ++ line_of (take q (drop (j * p + i) xs))
-  unfolding lines_begun line_of joined
-  line_rest j i zero h e = let all : i ≡ p = omega arith in rw (all, append-nil)
-  line_rest j i (suc q) h e =
-      let place : (j * p + i) % p ≡ i = digits_mod j (omega arith) in
-      let left : p - 1 - i ≡ q = omega arith in
-      let size = length-map (take q (drop (suc (j * p + i)) xs)) decimal in
-      let long : length (take q (drop (suc (j * p + i)) xs)) ≡ q = simp (length-take, length-drop) (omega arith) in
-      line_rest j (suc i) q h (omega arith)
-      ∙ rw (add-suc, place, left, drop-cons xs (j * p + i) 0 (omega arith), size, long) (simp append_assoc)
-
-  pub lines_all : (j : ℕ) → j * p ≤ length xs → lines_begun p (j * p) xs ≡ lines_of j p xs
-  unfolding lines_begun lines_of
-  lines_all zero h = rw zero-mul
-  lines_all (suc j) h =
-      let line : suc j * p ≡ j * p + p = omega arith in
-      rw (line, ← lines_all j (omega arith)) (rw add-zero at (line_rest j 0 p h (omega arith)))
-
-  -- which have p numbers at most
+  -- lines have p numbers at most
   pub lines_few : All (λ x. x < 1000) xs → (n : ℕ) → length (lines_of n p xs) ≤ 4 * (n * p)
   unfolding lines_of
   lines_few a zero = omega arith
@@ -54,10 +43,18 @@ module _ (p : ℕ) (xs : List ℕ) where
       let line = line_few 3 (lit≤ tt) (all_take p (all_drop (n * p) a)) in
       simp length-append (omega (arith, lines_few a n, line))
 
--- lines that have a phase have some
-pub width_some : (v p i : ℕ) → i < v * p → 1 ≤ p
-width_some v zero i h = absurd (omega (arith, mul-zero v))
-width_some v (suc p) i h = omega arith
+  -- one more
+  pub lines_next : (n : ℕ) → lines_of (n + 1) p xs ≡ lines_of n p xs ++ line_of (take p (drop (n * p) xs))
+  unfolding lines_of
+  lines_next n = rw (add-one n)
+
+  -- fewer are no longer
+  pub lines_within : (n v : ℕ) → n ≤ v → length (lines_of n p xs) ≤ length (lines_of v p xs)
+  unfolding lines_of
+  lines_within n zero h = let none : n ≡ 0 = omega arith in rw none (omega arith)
+  lines_within n (suc v) h =
+      either (leb n v) (λ e. simp length-append (omega (arith, lines_within n v (leb-true n v e))))
+      (λ e. let all : n ≡ suc v = omega (arith, leb-false n v e) in rw all (omega arith))
 
 -- what stands after v layers makes no difference to their lines
 pub lines_before : (n p v : ℕ) (xs ys : List ℕ) → n ≤ v → length xs ≡ v * p → lines_of n p (xs ++ ys) ≡ lines_of n p xs

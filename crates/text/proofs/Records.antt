@@ -6,13 +6,14 @@ use Prim.Native.Nat.{ℕ, ◌*◌, ◌<◌, ◌≤◌}
 use native.Mathlib.Nat.{mul-le-mul}
 use native.Mathlib.Omega.{arith}
 use lib.Dec.{eqb, leb, lit<, lit≤}
-use lib.ListN.{length, take, length-append}
+use lib.ListN.{length, take, drop, length-append, length-take, take-append-drop}
 use borrow.Author.Tests.{leb-true, le-leb, eq-eqb, ne_eqb}
 use Rattle.ground.specs.Lists.{All}
 use Rattle.ground.proofs.Booleans.{and_true_left, and_true_right, cond_both}
 use Rattle.plan.specs.declared.Record.{Record}
 use Rattle.text.specs.Text.{lines_of, ok_text, refused_text, unreadable_text, record_text, three_digits, printable}
 use Rattle.text.specs.Text.{longest}
+use Rattle.text.proofs.Digits.{short_all}
 use Rattle.text.proofs.Words.{ended_few}
 use Rattle.text.proofs.Lines.{lines_few, lines_before, ok_words, ok_few, refused_words, unreadable_bytes}
 
@@ -92,17 +93,30 @@ module _ (a : Record) (phases : List ℕ) where
 
 -- ---- how long it is
 
--- no text of phases of three digits is longer than the longest
-pub record_few : (a : Record) (phases : List ℕ) → Limits a → All (λ x. x < 1000) phases
-    → length (record_text a phases) ≤ longest
+text_within : (a : Record) (phases : List ℕ) → Limits a
+    → length (lines_of a.layers a.ports phases) ≤ 4 * (a.layers * a.ports) → length (record_text a phases) ≤ longest
 unfolding record_text
-record_few a phases l short =
+text_within a phases l lines =
     let entries : a.layers * a.ports ≤ 8 * 32 = mul-le-mul l.layers l.ports in
     let first = ok_few a (omega (arith, l.ports)) (omega (arith, l.layers)) (omega (arith, l.scale)) in
     let number = ended_few 3 a.refusal 0 (lit≤ tt) (omega (arith, l.refusal)) in
     cond_both (λ (text : List ℕ). length text ≤ longest) (eqb a.refusal 0)
-    (simp length-append (omega (arith, first, lines_few a.ports phases short a.layers)))
+    (simp length-append (omega (arith, first, lines)))
     (rw refused_words (rw length-append (omega (arith, number))))
+
+-- no text of phases of three digits is longer than the longest
+pub record_few : (a : Record) (phases : List ℕ) → Limits a → All (λ x. x < 1000) phases
+    → length (record_text a phases) ≤ longest
+record_few a phases l short = text_within a phases l (lines_few a.ports phases short a.layers)
+
+-- nor is one that is printed
+pub printable_few : (a : Record) (phases : List ℕ) → printable a phases ≡ true → length (record_text a phases) ≤ longest
+printable_few a phases e =
+    let n = a.layers * a.ports in
+    let size : length (take n phases) ≡ n = simp length-take (omega (arith, phases_many a phases e)) in
+    let same = lines_before a.layers a.ports a.layers (take n phases) (drop n phases) (omega arith) size in
+    let few = lines_few a.ports (take n phases) (short_all _ (phases_short a phases e)) a.layers in
+    text_within a phases (limits a phases e) (rw (rw take-append-drop at same) few)
 
 -- and none is empty
 pub record_some : (a : Record) (phases : List ℕ) → 0 < length (record_text a phases)

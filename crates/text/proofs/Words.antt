@@ -1,31 +1,28 @@
 -- Numbers in decimals and lines of numbers: digit by digit, and how long they are.
-use mathlib.Core.Path.{◌≡◌}
-use mathlib.Core.List.{List, [], ◌∷◌, ◌++◌}
+use mathlib.Core.Path.{◌≡◌, sym}
+use mathlib.Core.List.{List, [], ◌∷◌}
 use Prim.Native.Nat.{ℕ, zero, suc, ◌+◌, ◌*◌, ◌/◌, ◌^◌, ◌<◌, ◌≤◌}
 use native.Mathlib.Nat.{suc-mul}
 use native.Mathlib.Omega.{arith}
-use lib.Dec.{ltb}
+use lib.Dec.{ltb, lit≤}
 use lib.ListN.{length, length-append}
-use borrow.Author.Tests.{lt-ltb, le-ltb}
+use borrow.Author.Tests.{lt-ltb}
+use borrow.Author.Rules.{rules}
+use Rattle.std.specs.Fmt.{decimal as written}
+use Rattle.std.proofs.lemmas.Fmt.{AppendsLastDigit, decimal_from_appends, length-decimal-le}
 use Rattle.ground.specs.Lists.{All, all_nil, all_cons}
 use Rattle.ground.proofs.Booleans.{either}
-use Rattle.text.specs.Words.{ending, joined, digit, decimal_in, decimal, ended, line_of}
+use Rattle.text.specs.Words.{ending, joined, decimal_in, decimal, ended, line_of}
 
 -- ---- digit by digit
 
--- one place more than the digits need makes no difference
-decimal_in_more : (k n : ℕ) → n < 10 ^ suc k → decimal_in (suc (suc k)) n ≡ decimal_in (suc k) n
+last_digit : AppendsLastDigit decimal_in
 unfolding decimal_in
-decimal_in_more zero n h = rw (lt-ltb n 10 (omega arith))
-decimal_in_more (suc k) n h = rw (decimal_in_more k (n / 10) (omega arith))
+last_digit = search rules
 
-pub decimal_one : (n : ℕ) → n < 10 → decimal n ≡ digit n ∷ []
-unfolding decimal_in
-decimal_one n h = rw (lt-ltb n 10 h)
-
-pub decimal_more : (n : ℕ) → 10 ≤ n → n < 10 ^ 20 → decimal n ≡ decimal (n / 10) ++ digit n ∷ []
-unfolding decimal_in
-decimal_more n h few = rw (le-ltb n 10 h, decimal_in_more 18 (n / 10) (omega arith))
+-- those that the library writes
+pub decimal_written : (n : ℕ) → n < 2 ^ 64 → written n ≡ decimal n
+decimal_written n h = sym (decimal_from_appends decimal_in last_digit 20 n h (length-decimal-le 20 n (lit≤ tt) (omega arith) h))
 
 -- ---- how long they are
 

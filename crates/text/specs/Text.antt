@@ -1,5 +1,5 @@
 -- The text of an answer, and what a call that writes one gives and leaves.
-use Rattle.std.specs.Prelude.{◌≡◌, Bool, ◌&&◌, List, [], ◌∷◌, ◌++◌, ℕ, zero, suc, ◌+◌, ◌*◌, ◌≤◌, eqb, leb, length, take, drop}
+use Rattle.std.specs.Prelude.{Bool, ◌&&◌, List, [], ◌∷◌, ◌++◌, ℕ, zero, suc, ◌+◌, ◌*◌, eqb, leb, length, take}
 use Rattle.ground.specs.Cases.{◌⇒◌∣◌}
 use Rattle.ground.specs.Lists.{each}
 use Rattle.plan.specs.declared.Record.{Record}
@@ -43,18 +43,3 @@ printable a phases =
 -- no text is longer: `ok 32 8 256`, and 8 lines of 32 phases of three digits
 abbrev pub longest : ℕ
 longest = 12 + 8 * (32 * 4)
-
--- A text that may be written stands at the front of what was lent where it fits, and its length is given. Otherwise 0 is
--- given, and all is as lent.
-unfoldable pub is_written : Bool → List ℕ → List ℕ → Bool
-is_written may text lent = may && leb (length text) (length lent)
-
-pub record Writes (may : Bool) (text lent : List ℕ) (given : ℕ) (left : List ℕ) : Type 0 where
-  pub gives : given ≡ (is_written may text lent ⇒ length text ∣ 0)
-  pub leaves : left ≡ (is_written may text lent ⇒ text ++ drop (length text) lent ∣ lent)
-
--- a text is written from a place on, and the place after it is given
-pub record Adds (text : List ℕ) (at : ℕ) (lent : List ℕ) (given : ℕ) (left : List ℕ) : Type 0 where
-  pub long : given ≡ at + length text
-  pub within : given ≤ length lent
-  pub stands : left ≡ take at lent ++ text ++ drop given lent

@@ -1,69 +1,92 @@
-// Writers: each puts its text from a place of a lent buffer on, and gives the place after it.
-ghost use Rattle.std.specs.Prelude.{◌≡◌, true, ◌++◌, ◌+◌, ◌*◌, ◌≤◌, length, take};
-ghost use Rattle.text.specs.Words.{decimal, ended};
-ghost use Rattle.text.specs.Text.{lines_of, ok_text, three_digits, Adds};
+// A text that is put together, word by word.
+ghost use Rattle.std.specs.Prelude.{◌≡◌, [], ◌∷◌, ◌++◌, ◌+◌, ◌*◌, ◌≤◌, ℕ, List, length, take};
+ghost use Rattle.text.specs.Words.{ended, line_of};
+ghost use Rattle.text.specs.Text.{longest, lines_of, ok_text};
 
+use crate::LONGEST_TEXT;
 use plan::Record;
+use std::marker::Model;
 use turn::Part;
 
-// A number in decimals: its last digit after those of a tenth of it.
-fn decimal(n: u64, at: usize, out: &mut [u8]) -> usize
-    requires { at + length (decimal n) ≤ length out.old }
-    ensures { Adds (decimal n) at out.old result out.new }
-{
-    if n < 10 {
-        out[at] = b'0' + n as u8;
-        return at + 1;
+// A text in the making, in an array that has room for any.
+#[derive(Drop)]
+pub struct Text {
+    bytes: [u8; LONGEST_TEXT],
+    length: usize,
+}
+
+// Clauses see its bytes.
+impl Model for Text {
+    ghost Value = { List ℕ };
+
+    ghost view = { λ t. take t.length t.bytes };
+
+    ghost invariant = { λ t. t.length ≤ longest };
+}
+
+impl Text {
+    pub fn new() -> Self
+        ensures { result ≡ [] }
+    {
+        Text {
+            bytes: [0; LONGEST_TEXT],
+            length: 0,
+        }
     }
-    let k = decimal(n / 10, at, out);
-    out[k] = b'0' + (n % 10) as u8;
-    k + 1
-}
 
-// A number, and what follows it where so many words are left.
-pub fn ended(n: u64, left: usize, at: usize, out: &mut [u8]) -> usize
-    requires { at + length (ended n left) ≤ length out.old }
-    ensures { Adds (ended n left) at out.old result out.new }
-{
-    let k = decimal(n, at, out);
-    out[k] = crate::ending(left);
-    k + 1
-}
-
-// A line for each of v layers of p phases, of three digits at most.
-pub fn lines(phases: &[Part], p: usize, v: usize, at: usize, out: &mut [u8]) -> usize
-    requires { (v * p ≤ length phases.now) × (three_digits (take (v * p) phases.now) ≡ true)
-        × (at + 4 * (v * p) ≤ length out.old) }
-    ensures { Adds (lines_of v p phases.now) at out.old result out.new }
-{
-    let n = v * p;
-    let mut k = at;
-    let mut i = 0;
-    while i < n {
-        let x = phases[i] as u64;
-        let left = p - 1 - i % p;
-        k = ended(x, left, k, out);
-        i += 1;
+    pub fn bytes(&self) -> &[u8]
+        ensures { result.now ≡ self.now }
+    {
+        &self.bytes[..self.length]
     }
-    k
-}
 
-// A word, and a number after it.
-pub fn opened(word: &[u8], n: u64, left: usize, at: usize, out: &mut [u8]) -> usize
-    requires { at + length word.now + length (ended n left) ≤ length out.old }
-    ensures { Adds (word.now ++ ended n left) at out.old result out.new }
-{
-    let w = word.len();
-    ground::copy(word, w, &mut out[at..]);
-    ended(n, left, at + w, out)
-}
+    pub fn word(&mut self, word: &[u8])
+        requires { length self.old + length word.now ≤ longest }
+        ensures { self.new ≡ self.old ++ word.now }
+    {
+        let end = self.length + word.len();
+        self.bytes[self.length..end].copy_from_slice(word);
+        self.length = end;
+    }
 
-// The first line of a precoder's text.
-pub fn accepted(a: Record, out: &mut [u8]) -> usize
-    requires { length (ok_text a) ≤ length out.old }
-    ensures { Adds (ok_text a) 0 out.old result out.new }
-{
-    let ports = opened(b"ok ", a.ports as u64, 2, 0, out);
-    let layers = ended(a.layers as u64, 1, ports, out);
-    ended(a.scale as u64, 0, layers, out)
+    // A number, and what follows it where so many words are left.
+    pub fn number(&mut self, n: u64, left: usize)
+        requires { length self.old + length (ended n left) ≤ longest }
+        ensures { self.new ≡ self.old ++ ended n left }
+    {
+        self.word(itoa::Buffer::new().format(n).as_bytes());
+        self.word(&[crate::ending(left)]);
+    }
+
+    // A line of phases.
+    pub fn line(&mut self, phases: &[Part])
+        requires { length self.old + length (line_of phases.now) ≤ longest }
+        ensures { self.new ≡ self.old ++ line_of phases.now }
+    {
+        for (i, x) in phases.iter().enumerate() {
+            self.number(*x as u64, phases.len() - 1 - i);
+        }
+    }
+
+    // A line for each of v layers of p phases.
+    pub fn lines(&mut self, phases: &[Part], p: usize, v: usize)
+        requires many { v * p ≤ length phases.now }
+        requires room { length self.old + length (lines_of v p phases.now) ≤ longest }
+        ensures { self.new ≡ self.old ++ lines_of v p phases.now }
+    {
+        for layer in 0..v {
+            self.line(&phases[layer * p..][..p]);
+        }
+    }
+
+    // The first line of a precoder's text.
+    pub fn accepted(&mut self, a: Record)
+        requires { length self.old + length (ok_text a) ≤ longest }
+        ensures { self.new ≡ self.old ++ ok_text a }
+    {
+        self.word(b"ok ");
+        self.number(a.ports as u64, 2);
+        self.number(a.layers as u64, 1);
+        self.number(a.scale as u64, 0);
+    }
 }

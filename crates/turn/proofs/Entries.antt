@@ -8,7 +8,7 @@ use native.Mathlib.Omega.{arith}
 use lib.Arith.{digits_lt}
 use lib.ListN.{length, get_or, length-map, get_or-append, get_or-map}
 use lib.Seq.{get_or_at, get_or-append-add}
-use Rattle.ground.proofs.Lists.{map_at}
+use Rattle.std.proofs.lemmas.List.{get_or-map as map_at}
 use Rattle.turn.specs.Phase.{turn, phase}
 use Rattle.turn.specs.Column.{Setting, Divides, steps, product, grid, step, beam, column}
 use Rattle.turn.proofs.Lists.{length_steps, length_beam}

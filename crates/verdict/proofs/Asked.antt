@@ -2,80 +2,99 @@
 use mathlib.Core.Path.{◌≡◌, refl, sym, ap, ◌∙◌}
 use mathlib.Core.Logic.{◌≢◌}
 use mathlib.Core.Bool.{true, false}
-use mathlib.Core.List.{List, [], ◌∷◌, map}
-use Prim.Native.Nat.{ℕ, ◌+◌, ◌-◌, ◌*◌, ◌%◌, ◌≤◌}
-use native.Mathlib.Nat.{not-suc-le-zero}
+use mathlib.Core.List.{[], ◌∷◌}
+use Prim.Native.Nat.{ℕ, zero, suc, ◌+◌, ◌-◌, ◌*◌, ◌%◌}
 use native.Mathlib.Omega.{arith}
-use lib.ListN.{length, get_or}
-use borrow.Author.Tests.{eq-eqb, ne_eqb}
+use lib.ListN.{get_or}
+use borrow.Author.Tests.{ne_eqb, not-false}
+use Rattle.std.specs.Prelude.{Ok, Err}
+use Rattle.ground.specs.First.{first}
 use Rattle.ground.specs.Lists.{each}
-use Rattle.turn.specs.declared.Beam.{Beam}
-use Rattle.settings.specs.Settings.{down}
+use Rattle.ground.proofs.Booleans.{either}
+use Rattle.refusal.specs.Outcome.{outcome}
+use Rattle.refusal.proofs.Outcome.{none_applies}
+use Rattle.settings.specs.Ranges.{beam}
+use Rattle.settings.specs.Settings.{is_setting, mask_bytes, ports, sizes_of}
+use Rattle.settings.specs.Outcome.{refused_with}
 use Rattle.report.specs.declared.Report.{Report}
 use Rattle.report.specs.declared.Beams.{Beams}
-use Rattle.report.specs.Beams.{beams, four, beams_of}
-use Rattle.report.proofs.Moves.{length_beams, moves_some, moves_few}
+use Rattle.settings.specs.declared.Refused.{Refused}
+use Rattle.report.specs.Rules.{rule, own_order, InRange}
+use Rattle.report.specs.Beams.{beams, said_all, said, beams_of}
+use Rattle.report.proofs.InRange.{in_range_zero, zero_in_range}
 use Rattle.masks.specs.declared.Needs.{Needs}
 use Rattle.masks.specs.Admitted.{bits_of}
 use Rattle.masks.specs.Asks.{Asks}
-use Rattle.single.specs.Masks.{beam_bit, two_port_bit, neighbours, bits_read}
+use Rattle.single.specs.Masks.{neighbours, bits_read}
 use Rattle.single.specs.Single.{indices, single}
 use Rattle.single.proofs.Neighbours.{whole_bits, half_beam, half_bits}
-use Rattle.verdict.proofs.Given.{number_said, bytes_said, said_in_range, half_said, ports_are}
+use Rattle.verdict.proofs.Given.{ports_are, half_said}
 
--- one to four beams, by their numbers
-bits_four : (n2 : ℕ) (xs : List Beam) → 1 ≤ length xs → length xs ≤ 4
-    → bits_of (length xs) (down n2) (four (λ x. x.l) xs) (four (λ x. x.m) xs) ≡ map (beam_bit n2) xs
-unfolding bits_of
-bits_four n2 [] s h = absurd (not-suc-le-zero s)
-bits_four n2 (a ∷ []) s h = refl
-bits_four n2 (a ∷ b ∷ []) s h = refl
-bits_four n2 (a ∷ b ∷ c ∷ []) s h = refl
-bits_four n2 (a ∷ b ∷ c ∷ d ∷ []) s h = refl
-bits_four n2 (a ∷ b ∷ c ∷ d ∷ x ∷ xs) s h = absurd (omega arith)
+-- a report in range is not refused
+pub not_refused : (r : Report) {why : Refused} → beams_of r ≡ Err why → InRange r → ⊥
+unfolding beams_of
+not_refused r e h = let z = in_range_zero r h in let q = rw z at e in cc
 
--- two ports: one bit
-pub port_bit : (r : Report) {k : ℕ} → r.n1 ≡ 1 → k ≡ two_port_bit r
-    → bits_of 1 0 (0 ∷ 0 ∷ 0 ∷ 0 ∷ []) (k ∷ 0 ∷ 0 ∷ 0 ∷ []) ≡ bits_read r
-unfolding bits_of bits_read
-port_bit r two e = rw (e, eq-eqb r.n1 1 two) (ap (λ (n : ℕ). n ∷ []) (omega arith))
+module _ (r : Report) (x : Needs) (v : x.v ≡ r.v) where
+  abbrev number : ℕ
+  number = first (rule r) own_order
 
-module _ (r : Report) {b : Beams} (e : b ≡ beams_of r) where
-  -- half-length beams: those of three
-  pub half_bits_asked : b.refusal ≡ 0 → b.half ≡ true → {before : ℕ} → let l = get_or b.l 0 0 in let m = get_or b.m 0 0 in
-      before ≡ (l + b.across - 1) % b.across
-      → bits_of 3 b.down (before ∷ l ∷ (l + 1) ∷ 0 ∷ []) (m ∷ m ∷ m ∷ 0 ∷ []) ≡ bits_read r
-  unfolding bits_of neighbours
-  half_bits_asked z t p =
-      let (h, s) = said_in_range r e z in
-      let half = half_said r h s t in
-      rw (p, s, h.setting, half_beam r h half, half_bits r h half)
+  -- a report that is not refused by 1 has a setting
+  has_setting : number ≢ 1 → is_setting r.n1 r.n2 ≡ true
+  unfolding first
+  has_setting h = either (rule r 1) (λ q. absurd (h (rw q))) (λ q. unfold rule in not-false _ q)
 
-  -- others: those of the beams
-  pub beam_bits : b.refusal ≡ 0 → r.n1 ≢ 1 → b.half ≡ false → bits_of b.count b.down b.l b.m ≡ bits_read r
-  beam_bits z more t =
-      let (h, s) = said_in_range r e z in
-      let long = length_beams r in
-      rw (s, h.setting, whole_bits r (ne_eqb r.n1 1 more) (half_said r h s t))
-      (bits_four r.n2 (beams r) (omega (arith, moves_some r)) (omega (arith, moves_few r)))
-
-  -- what every report hands over
-  pub asks : (x : Needs) → x.refusal ≡ b.refusal → x.bytes ≡ b.bytes → x.v ≡ r.v
-      → (b.refusal ≡ 0
-      → (bits_of x.count x.width x.l x.m ≡ bits_read r) × (x.ports ≡ b.ports) × (x.entries ≡ r.v * b.ports))
+  asks : x.own ≡ outcome number → (is_setting r.n1 r.n2 ≡ true → x.bytes ≡ mask_bytes r.n1 r.n2)
+      → (InRange r → (bits_of x.width x.beams.now ≡ bits_read r) × (x.ports ≡ ports r.n1 r.n2) × (x.entries ≡ r.v * ports r.n1 r.n2))
       → Asks single r indices x
   unfolding each
-  asks x k bytes v accepted = record {
-    order_is = refl;
-    rest_late = tt;
-    refusal_is = k ∙ number_said r e;
-    bytes_are = λ h _. bytes ∙ bytes_said r e (λ z. h (k ∙ z));
-    layers_are = v;
-    bits_are = λ z. (accepted (sym k ∙ z)).0;
-    ports_are = λ z.
-        let (h, s) = said_in_range r e (sym k ∙ z) in
-        (accepted (sym k ∙ z)).1 ∙ ports_are r h s;
-    entries_are = λ z.
-        let (h, s) = said_in_range r e (sym k ∙ z) in
-        (accepted (sym k ∙ z)).2 ∙ ap (λ (p : ℕ). r.v * p) (ports_are r h s);
-  }
+  asks own bytes accepted =
+      let ranged : x.own ≡ Ok tt → InRange r = λ e. zero_in_range r (none_applies tt number (sym own ∙ e)) in
+      record {
+        order_is = refl;
+        rest_late = tt;
+        own_is = own;
+        bytes_are = λ h _. bytes (has_setting (λ q. h (own ∙ ap outcome q)));
+        layers_are = v;
+        bits_are = λ e. (accepted (ranged e)).0;
+        ports_are = λ e. (accepted (ranged e)).1;
+        entries_are = λ e. (accepted (ranged e)).2;
+      }
+
+  -- a report in range
+  pub ranged_asks : {b : Beams} → InRange r → b ≡ said_all r (sizes_of r.n1 r.n2) → x.own ≡ Ok tt → x.bytes ≡ b.sizes.bytes
+      → bits_of x.width x.beams.now ≡ bits_read r → x.ports ≡ b.sizes.ports → x.entries ≡ r.v * ports r.n1 r.n2
+      → Asks single r indices x
+  ranged_asks h e own bytes bits p entries =
+      asks (own ∙ ap outcome (sym (in_range_zero r h)))
+      (λ s. bytes ∙ rw (e, s))
+      (λ _. (bits, p ∙ ports_are r h e, entries))
+
+  -- one that its own numbers refuse
+  pub refused_asks : {why : Refused} → beams_of r ≡ Err why → x.own ≡ Err why.refusal → x.bytes ≡ why.sizes.bytes
+      → Asks single r indices x
+  unfolding beams_of
+  refused_asks {why} e own bytes = go number refl e
+    where
+      go : (k : ℕ) → number ≡ k → said r k ≡ Err why → Asks single r indices x
+      go zero z q = absurd cc
+      go (suc k) z q =
+          let refused : why ≡ refused_with (suc k) (sizes_of r.n1 r.n2) = cc in
+          asks (own ∙ rw (refused, z)) (λ s. bytes ∙ rw (refused, s)) (λ h. absurd (omega (arith, in_range_zero r h)))
+
+-- ---- the bits that a report in range reads
+
+module _ (r : Report) {b : Beams} (h : InRange r) (e : b ≡ said_all r (sizes_of r.n1 r.n2)) where
+  -- half-length beams: those of three
+  pub half_bits_asked : b.half ≡ true → {before : ℕ} → let x = get_or b.beams 0 (beam 0 0) in
+      before ≡ (x.l + b.sizes.across - 1) % b.sizes.across
+      → bits_of b.sizes.down (beam before x.m ∷ x ∷ beam (x.l + 1) x.m ∷ []) ≡ bits_read r
+  unfolding bits_of neighbours
+  half_bits_asked t p =
+      let half = half_said r h e t in
+      rw (p, e, h.setting, half_beam r h half, half_bits r h half)
+
+  -- others: those of the beams
+  pub beam_bits : r.n1 ≢ 1 → b.half ≡ false → bits_of b.sizes.down (beams r) ≡ bits_read r
+  unfolding bits_of
+  beam_bits more t = rw (e, h.setting, whole_bits r (ne_eqb r.n1 1 more) (half_said r h e t))

@@ -1,5 +1,4 @@
--- Why what is given of a report is the codebook's.
+-- What a report in range says, what reports ask of the masks, and what is given.
 pub mod Given
 pub mod Asked
-pub mod Judged
 pub mod Unique

@@ -1,149 +1,104 @@
 // Single-panel reports, judged: the first refusal that applies, or what is to be written.
 #![tactic(auto)]
 
-ghost use Rattle.std.specs.Prelude.{◌≡◌, false, ◌+◌, ◌*◌, ◌≤◌};
-ghost use Rattle.masks.specs.Asks.{Asks};
+ghost use Rattle.std.specs.Prelude.{◌≡◌, Err, false, [], ◌∷◌};
 ghost use Rattle.plan.specs.Answer.{planned, asked, refusal, judged_by};
-ghost use Rattle.report.specs.Rules.{InRange};
-ghost use Rattle.report.specs.Beams.{beams, four, said, beams_of};
+ghost use Rattle.report.specs.Beams.{beams_of};
+ghost use Rattle.masks.specs.Admitted.{bits_of};
+ghost use Rattle.single.specs.Masks.{bits_read};
 ghost use Rattle.single.specs.Plan.{plan};
-ghost use Rattle.single.specs.Masks.{two_port_bit};
-ghost use Rattle.single.specs.Single.{indices, single};
-ghost use Rattle.single.specs.Drawing.{lineup_of, step_of, drawing_of};
+ghost use Rattle.single.specs.Single.{single};
+ghost use Rattle.single.specs.Drawing.{drawing_of};
 
 use masks::Needs;
-use plan::{Drawing, Judged};
-use report::{Beams, Report};
-use turn::{Part, Phase};
+use plan::{Accepted, Drawing, Site};
+use ranged::Ranged;
+use refusal::Refusal;
+use report::Report;
+use settings::Refused;
+use turn::{Beam, Phase};
 
 mod half;
-mod two;
+mod ranged;
 
-// The steps of the beam (l,m), x + 512·y, where (1,0) has the step px and (0,1) the step py.
-fn step_of(l: u32, m: u32, px: u32, py: u32) -> u32
-    requires { (l ≤ 255) × (m ≤ 255) × (px ≤ 511) × (py ≤ 511) }
-    ensures { result ≡ l * px + 512 * (m * py) }
+// Judges a report that its own numbers refuse: a refusal that is tried before may apply too. `panels` has the same of its
+// codebook: one function for both would take a trait for its contract, and be longer than the two.
+fn refused(r: Report, why: Refused, site: Site, room: usize) -> Result<Accepted, Refusal>
+    requires { beams_of r ≡ Err why }
+    ensures { let s = site.entry in
+        result ≡ judged_by (planned (plan r)) (drawing_of r) (refusal single (asked r s.mask.now s.ranks s.offsets.now room)) }
 {
-    l * px + 512 * (m * py)
+    let needs = Needs {
+        own: Err(why.refusal),
+        bytes: why.sizes.bytes,
+        v: r.v,
+        ports: 0,
+        entries: 0,
+        width: 0,
+        beams: &[],
+    };
+    masks::admit(needs, site, room)?;
+    Err(why.refusal)
 }
 
-// The steps of the beams. Many reports have one beam.
-fn steps_of(r: Report, b: Beams) -> [u32; 4]
-    requires { InRange r × (b ≡ said r 0) }
-    ensures { result ≡ four (step_of r) (beams r) }
+// The bit that a report of two ports reads, as that of a beam in a mask without bits for l.
+#[tactic(auto, unfolding(single::specs::Masks::bits_read, single::specs::Masks::two_port_bit, masks::specs::Admitted::bits_of))]
+fn bit_read(x: Ranged) -> Beam
+    requires { x.r.n1 ≡ 1 }
+    ensures { bits_of 0 (result ∷ []) ≡ bits_read x.r }
 {
-    let px = turn::TURN as u32 / b.across;
-    let py = turn::TURN as u32 / b.down;
-    let l = b.l;
-    let m = b.m;
-    let first = step_of(l[0], m[0], px, py);
-    if b.count == 1 {
-        return [first, 0, 0, 0];
+    let r = x.r;
+    Beam {
+        l: 0,
+        m: if r.v == 1 { r.i2 } else { 4 + r.i2 },
     }
-    let second = step_of(l[1], m[1], px, py);
-    let third = step_of(l[2], m[2], px, py);
-    let fourth = step_of(l[3], m[3], px, py);
-    [first, second, third, fourth]
 }
 
-// What is to be written of a report with whole beams.
-fn drawing_of(r: Report, b: Beams, codes: [u16; 8]) -> Drawing
-    requires { InRange r × (b ≡ said r 0) × (b.half ≡ false) × (codes ≡ (lineup_of r).codes) }
-    ensures { result ≡ drawing_of r }
+// What is given of an accepted report with whole beams, and what is to be written.
+#[inline(always)]
+fn accepted(x: Ranged) -> Accepted
+    requires { x.b.half ≡ false }
+    ensures { result ≡ record { given = planned (plan x.r); drawing = drawing_of x.r } }
 {
+    let r = x.r;
+    let layers = single::of_whole_beams(r.v, x.b.beams);
+    let f = Phase::quarters(x.b.n);
     let v = r.v;
-    let f = Phase::quarters(b.n);
-    let steps = steps_of(r, b);
-    Drawing {
-        v: v,
+    let steps = x.steps();
+    let codes = layers.codes;
+    let drawing = Drawing {
+        v,
         pairs: 1,
         rows: r.n1,
         columns: r.n2,
-        steps: steps,
+        steps,
         co: [0, f.parts, 0, 0, 0, 0, 0, 0],
-        codes: codes,
-    }
-}
-
-// The bit of the two-port codebook.
-fn two_port_bit(r: Report) -> u32
-    requires { r.i2 ≤ 3 }
-    ensures { result ≡ two_port_bit r }
-{
-    if r.v == 1 { r.i2 } else { 4 + r.i2 }
-}
-
-// What a report that has no half-length beams needs of the masks and the buffer. Two ports have one bit.
-fn needs_of(r: Report, b: Beams) -> Needs
-    requires { (b ≡ beams_of r) × (b.half ≡ false) }
-    ensures { Asks single r indices result }
-{
-    if b.refusal != 0 {
-        return Needs {
-            refusal: b.refusal,
-            bytes: b.bytes,
-            v: r.v,
-            ports: 0,
-            entries: 0,
-            count: 0,
-            width: 0,
-            l: [0; 4],
-            m: [0; 4],
-        };
-    }
-    let ports = b.ports;
-    let entries = r.v * ports;
-    if r.n1 == 1 {
-        let bit = two_port_bit(r);
-        return Needs {
-            refusal: 0,
-            bytes: b.bytes,
-            v: r.v,
-            ports: ports,
-            entries: entries,
-            count: 1,
-            width: 0,
-            l: [0; 4],
-            m: [bit, 0, 0, 0],
-        };
-    }
-    let l = b.l;
-    let m = b.m;
-    Needs {
-        refusal: 0,
-        bytes: b.bytes,
-        v: r.v,
-        ports: ports,
-        entries: entries,
-        count: b.count,
-        width: b.down,
-        l: l,
-        m: m,
-    }
+        codes,
+    };
+    x.accepted(layers, drawing)
 }
 
 // Judges a report by the refusals 1 to 11 and 13: the first that applies is given, and otherwise what is to be written.
 // `room` is the number of entries for which the lent buffer has room.
-pub fn judge(r: Report, mask: &[u8], ranks: u8, offsets: &[Part], room: usize) -> Judged
-    ensures { result ≡ judged_by (planned (plan r)) (drawing_of r) (refusal single (asked r mask.now ranks offsets.now room)) }
+#[inline(always)]
+pub fn judge(r: Report, site: Site, room: usize) -> Result<Accepted, Refusal>
+    ensures { let s = site.entry in
+        result ≡ judged_by (planned (plan r)) (drawing_of r) (refusal single (asked r s.mask.now s.ranks s.offsets.now room)) }
 {
-    let b = report::beams_of(r);
-    if b.half {
-        return half::judge(r, b, mask, ranks, offsets, room);
+    let x = match Ranged::of(r) {
+        Ok(x) => x,
+        Err(why) => return refused(r, why, site, room),
+    };
+    let down = x.b.sizes.down;
+    if x.b.half {
+        x.admit(down, &half::beams_read(x), site, room)?;
+        return Ok(half::accepted(x));
     }
-    let x = needs_of(r, b);
-    let k = masks::admit(x, mask, ranks, offsets, room);
-    if k != 0 {
-        return plan::refuse(k);
+    if x.r.n1 == 1 {
+        x.admit(0, &[bit_read(x)], site, room)?;
+    } else {
+        let beams = x.b.beams;
+        x.admit(down, &beams[..x.b.count as usize], site, room)?;
     }
-    if r.n1 == 1 {
-        return two::accepted(r, b, x.entries);
-    }
-    let l = b.l;
-    let m = b.m;
-    let y = single::of_whole_beams(r.v, l, m);
-    let codes = y.codes;
-    let beams = y.beams;
-    let drawing = drawing_of(r, b, codes);
-    plan::accept(b.ports, r.v, x.entries, beams, drawing)
+    Ok(accepted(x))
 }

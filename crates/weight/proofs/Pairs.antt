@@ -5,7 +5,7 @@ use Prim.Native.Nat.{ℕ, zero, suc, ◌+◌, ◌*◌, ◌<◌}
 use native.Mathlib.Omega.{arith}
 use lib.IntN.{ℤ}
 use lib.ListN.{length, get_or}
-use Rattle.ground.proofs.Lists.{map_at}
+use Rattle.std.proofs.lemmas.List.{get_or-map}
 use Rattle.turn.specs.Column.{steps}
 use Rattle.turn.proofs.Lists.{length_steps}
 use Rattle.turn.proofs.Entries.{steps_entry}
@@ -42,4 +42,4 @@ pairs_numbers (w ∷ ws) ns = ap {B = List Weight} (λ (vs : List Weight). w ∷
 -- ---- a function of weights over whole steps
 
 pub map_steps_at : (f : ℕ → Weight) (n s k : ℕ) → k < n → get_or (map f (steps n s)) k no_weight ≡ f (k * s)
-map_steps_at f n s k h = map_at f (steps n s) k 0 no_weight (rw length_steps h) ∙ ap f (steps_entry n s k h)
+map_steps_at f n s k h = get_or-map f (steps n s) k 0 no_weight (rw length_steps h) ∙ ap f (steps_entry n s k h)

@@ -1,20 +1,21 @@
 -- Columns with offsets, block by block: one block more, and the sixteen places in which a block is drawn.
 use mathlib.Core.Path.{◌≡◌, refl, sym, ap, ◌∙◌}
+use mathlib.Core.Logic.{inl, inr}
 use mathlib.Core.List.{List, [], ◌∷◌, ◌++◌}
 use Prim.Native.Nat.{ℕ, zero, suc, ◌+◌, ◌*◌, ◌/◌, ◌%◌, ◌<◌, ◌≤◌}
-use native.Mathlib.Nat.{zero-mul, zero-add, mod-lt, div-add-mod', div-lt_iff_lt-mul}
+use native.Mathlib.Nat.{zero-mul, zero-add, not-suc-le-zero, le_of_suc-le-suc, eq-or-lt_of_le, mul-le-mul, mod-lt, div-add-mod', div-lt_iff_lt-mul}
 use native.Mathlib.Numerals.{add-one}
 use native.Mathlib.Omega.{arith}
-use lib.ListN.{length, take, get_or, length-append}
-use lib.Seq.{get_or-take, length-take-le, ext_get_or}
-use Rattle.turn.specs.Phase.{phase}
+use lib.ListN.{length, take, get_or, length-append, get_or-append}
+use lib.Seq.{get_or_at, get_or-take, length-take-le, ext_get_or}
+use Rattle.turn.specs.Phase.{half, phase}
 use Rattle.turn.specs.Column.{grid, column}
 use Rattle.turn.proofs.Lists.{length_grid}
 use Rattle.turn.proofs.Columns.{length_column, column_append}
 use Rattle.turn.proofs.Entries.{grid_entry, column_entry}
 use Rattle.offsets.specs.Offsets.{fed}
 use Rattle.offsets.proofs.Fed.{length_fed, fed_take}
-use Rattle.plan.specs.Drawing.{co_at, co_row}
+use Rattle.plan.specs.Drawing.{takes, co_at, co_row}
 use Rattle.writer.specs.Blocks.{placed}
 
 pub length_row : (co : List ℕ) (code n : ℕ) → length (co_row co code n) ≡ n
@@ -22,6 +23,22 @@ unfolding co_row
 length_row co code zero = refl
 length_row co code (suc n) =
     length-append (co_row co code n) (co_at co code n ∷ []) ∙ omega (arith, length_row co code n)
+
+-- what is added to a block, and that it is less than a turn and a half
+pub row_at : (co : List ℕ) (code n q : ℕ) → q < n → get_or (co_row co code n) q 0 ≡ co_at co code q
+unfolding co_row
+row_at co code zero q h = absurd (not-suc-le-zero h)
+row_at co code (suc n) q h = elim (eq-or-lt_of_le (le_of_suc-le-suc h)) [
+  | inl e ↦ get_or_at (co_row co code n) (co_at co code n) [] 0 q (length_row co code n ∙ sym e) ∙ ap (co_at co code) (sym e)
+  | inr l ↦ get_or-append (co_row co code n) (co_at co code n ∷ []) 0 q (omega (arith, length_row co code n)) ∙ row_at co code n q l
+]
+
+pub co_small : (co : List ℕ) (code q : ℕ) → co_at co code q ≤ 511 + half
+unfolding co_at
+co_small co code q =
+    let c = get_or co q 0 % 512 in
+    let taken : takes code * c ≤ 511 = omega (arith, mul-le-mul {n₁ = takes code} {m₁ = c} {n₂ = 1} {m₂ = 511} (omega arith) (omega arith)) in
+    omega (arith, taken)
 
 -- one block more
 pub column_next : (co : List ℕ) (code n : ℕ) (b : List ℕ)

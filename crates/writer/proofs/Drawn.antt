@@ -10,6 +10,7 @@ use lib.Dec.{leb}
 use lib.ListN.{length, take, get_or, length-append}
 use lib.Seq.{take_all}
 use borrow.Author.Tests.{leb-true, le-leb}
+use Rattle.std.proofs.Common.{Some, None}
 use Rattle.turn.proofs.Lists.{length_grid}
 use Rattle.ground.specs.Cases.{◌⇒◌∣◌}
 use Rattle.ground.specs.Lists.{join}
@@ -22,7 +23,7 @@ use Rattle.plan.specs.Offsets.{fed_column, fed_matrix}
 use Rattle.plan.specs.declared.Drawing.{Drawing}
 use Rattle.plan.specs.Drawing.{height, co_row, beam_at, column_at, drawn, drawable}
 use Rattle.turn.proofs.Columns.{length_column}
-use Rattle.writer.specs.Blocks.{small, DrawnIn}
+use Rattle.writer.specs.Blocks.{DrawnIn}
 use Rattle.writer.proofs.Columns.{length_row}
 
 -- ---- layers
@@ -93,7 +94,7 @@ pub drawable_sizes : (s : Drawing) (room : ℕ) → drawable s room ≡ true →
 unfolding drawable
 drawable_sizes s room e =
     let first : Bool = five s.v s.pairs s.rows s.columns in
-    let tested : Bool = small s.v s.pairs s.rows s.columns in
+    let tested : Bool = first && leb (height s) 32 in
     let all = and_true_left tested (leb (s.v * height s + 16) room) e in
     let z = five_sizes _ _ _ _ (and_true_left first (leb (height s) 32) all) in
     record {
@@ -106,14 +107,14 @@ drawable_sizes s room e =
       fits = leb-true _ _ (and_true_right tested (leb (s.v * height s + 16) room) e);
     }
 
--- what is needed is 0 where a test fails, and sixteen more than the layers where it holds
-pub none_needed : (t : Bool) {n : ℕ} (m : ℕ) → n ≡ (t ⇒ m + 16 ∣ 0) → n ≡ 0 → t ≡ false
-none_needed true m e z = absurd (omega arith)
-none_needed false m e z = refl
+-- whether there is a number of entries says whether a test holds
+pub no_number : (t : Bool) (m : ℕ) → None ≡ (t ⇒ Some m ∣ None) → t ≡ false
+no_number true m e = absurd cc
+no_number false m e = refl
 
-pub some_needed : (t : Bool) {n : ℕ} (m : ℕ) → n ≡ (t ⇒ m + 16 ∣ 0) → (n ≡ 0 → ⊥) → (t ≡ true) × (n ≡ m + 16)
-some_needed true m e some = (refl, e)
-some_needed false m e some = absurd (some e)
+pub is_number : (t : Bool) (m n : ℕ) → Some n ≡ (t ⇒ Some m ∣ None) → (t ≡ true) × (n ≡ m)
+is_number true m n e = (refl, cc)
+is_number false m n e = absurd cc
 
 pub sizes_drawable : (s : Drawing) (room : ℕ) → DrawnIn s room → drawable s room ≡ true
 unfolding drawable

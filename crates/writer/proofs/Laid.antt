@@ -1,14 +1,12 @@
 -- Lists put into a buffer one after the other, each with up to sixteen entries over its end, and those put back at last.
 use mathlib.Core.Path.{◌≡◌, refl, sym, ap, ap₂, ◌∙◌, subst}
-use mathlib.Core.Bool.{Bool}
 use mathlib.Core.List.{List, [], ◌∷◌, ◌++◌, append-nil, append_assoc}
 use Prim.Native.Nat.{ℕ, ◌+◌, ◌-◌, ◌*◌, ◌≤◌}
 use native.Mathlib.Nat.{add-zero}
 use native.Mathlib.Omega.{arith}
-use lib.ListN.{length, take, drop, get_or, replicate, length-append, length-drop, take-append-drop}
-use lib.Seq.{drop-drop, drop_at, take_all, length-take-le}
-use borrow.Author.Tests.{le-leb}
-use Rattle.ground.specs.Copied.{Copied}
+use lib.ListN.{length, take, drop, get_or, length-append, length-drop, take-append-drop}
+use lib.Seq.{drop-drop, drop_at, length-take-le}
+use borrow.Rule.Slice.PartMut.{put_mid}
 use Rattle.ground.proofs.Written.{take_over}
 use Rattle.turn.specs.Column.{grid, column}
 use Rattle.turn.proofs.Lists.{length_grid}
@@ -17,7 +15,7 @@ use Rattle.offsets.specs.Offsets.{fed}
 use Rattle.offsets.proofs.Fed.{length_fed, fed_append}
 use Rattle.plan.specs.declared.Drawing.{Drawing}
 use Rattle.plan.specs.Drawing.{height, co_at, co_row, column_at, drawn}
-use Rattle.writer.specs.Blocks.{placed, PutAt, Laid}
+use Rattle.writer.specs.Blocks.{placed, Laid}
 use Rattle.writer.proofs.Columns.{length_row, column_next, length_fed_placed, block_fed}
 use Rattle.writer.proofs.Drawn.{drawn_next, length_drawn}
 
@@ -45,22 +43,32 @@ laid_append {lent} {mid} {left} {xs} {ys} {at} {to} {end} p q = record {
   long = q.long ∙ p.long;
 }
 
--- the first h of sixteen entries that are put down
-pub laid_put : {left : List ℕ} (lent block : List ℕ) (at h : ℕ)
-    → PutAt lent at block left → length left ≡ length lent → length block ≡ 16 → h ≤ 16
-    → at + 16 ≤ length lent → Laid lent at (take h block) (at + h) left
-laid_put {left} lent block at h e long sixteen few room = record {
+-- sixteen entries put in the place of those from place `at` on
+put_at : (lent block : List ℕ) (at k : ℕ) → k ≡ 16 → put_mid at k lent block ≡ take at lent ++ block ++ drop (at + 16) lent
+put_at lent block at k e =
+    rw e (ap (λ (l : List ℕ). take at lent ++ (block ++ l)) (drop-drop 16 at lent) ∙ sym (append_assoc (take at lent) block (drop (at + 16) lent)))
+
+-- the first h of them
+pub laid_put : (lent block : List ℕ) (at h k : ℕ) → k ≡ 16 → length block ≡ 16 → h ≤ 16 → at + 16 ≤ length lent
+    → Laid lent at (take h block) (at + h) (put_mid at k lent block)
+laid_put lent block at h k e sixteen few room = record {
   place = omega (arith, length-take-le h block (omega arith));
-  front = take_over (take at lent) block (drop (at + 16) lent) at h e here (omega arith);
+  front = take_over (take at lent) block (drop (at + 16) lent) at h put here (omega arith);
   back = drop_later left lent (at + 16) (at + h + 16) (omega arith) kept;
-  long = long;
+  long = ap length put ∙ rw length-append (rw length-append (omega (arith, here, length-drop (at + 16) lent)));
 }
   where
+    left : List ℕ
+    left = put_mid at k lent block
+
+    put : left ≡ take at lent ++ block ++ drop (at + 16) lent
+    put = put_at lent block at k e
+
     here : length (take at lent) ≡ at
     here = length-take-le at lent (omega arith)
 
     kept : drop (at + 16) left ≡ drop (at + 16) lent
-    kept = rw e (drop_at (take at lent ++ block) (drop (at + 16) lent) (at + 16) (rw length-append (omega (arith, here))))
+    kept = rw put (drop_at (take at lent ++ block) (drop (at + 16) lent) (at + 16) (rw length-append (omega (arith, here))))
 
 -- ---- a column with offsets
 
@@ -73,19 +81,22 @@ module _ (os co : List ℕ) (code rows w x y : ℕ) where
   length_blocks q = length_column _ _ ∙ ap₂ ◌*◌ (length_row co code q) (length_grid rows x w y)
 
   -- one block more, of which sixteen places are put down, with the offsets from place p on
-  pub laid_block : {lent mid left block : List ℕ} {at to : ℕ} (q p : ℕ) → Laid lent at (blocks_of q) to mid
+  pub laid_block : {lent mid block : List ℕ} {at to : ℕ} (q p k : ℕ) → Laid lent at (blocks_of q) to mid
       → p ≡ q * (rows * w) → block ≡ fed (drop p os) (placed w x y (co_at co code q))
-      → PutAt mid to block left → length left ≡ length mid → 1 ≤ w → rows * w ≤ 16 → to + 16 ≤ length mid
-      → Laid lent at (blocks_of (q + 1)) (to + rows * w) left
-  laid_block {lent} {mid} {left} {block} {at} {to} q p before here drawn e long some few room =
+      → k ≡ 16 → 1 ≤ w → rows * w ≤ 16 → to + 16 ≤ length mid
+      → Laid lent at (blocks_of (q + 1)) (to + rows * w) (put_mid to k mid block)
+  laid_block {lent} {mid} {block} {at} {to} q p k before here drawn e some few room =
       subst (λ (xs : List ℕ). Laid lent at xs (to + rows * w) left) (sym next)
       (laid_append before (subst (λ (xs : List ℕ). Laid mid to xs (to + rows * w) left) same put))
     where
       c : ℕ
       c = co_at co code q
 
+      left : List ℕ
+      left = put_mid to k mid block
+
       put : Laid mid to (take (rows * w) block) (to + rows * w) left
-      put = laid_put mid block to (rows * w) e long (ap length drawn ∙ length_fed_placed w x y c some (drop p os)) few room
+      put = laid_put mid block to (rows * w) k e (ap length drawn ∙ length_fed_placed w x y c some (drop p os)) few room
 
       same : take (rows * w) block ≡ fed (drop p os) (column (c ∷ []) (grid rows x w y))
       same = ap (take (rows * w)) drawn ∙ block_fed w x y c some (drop p os) rows few
@@ -113,21 +124,12 @@ pub drawn_place : {lent mid : List ℕ} {at : ℕ} (os : List ℕ) (s : Drawing)
     → at ≡ j * height s
 drawn_place os s j p = p.place ∙ omega (arith, length_drawn os s j)
 
--- the last entries of a list, from place `at` on, of which sixteen are copied
-pub copied_last : {left : List ℕ} {t : Bool} (out : List ℕ) (at : ℕ)
-    → Copied (take (length out - at) (drop at out)) 16 (replicate 16 0) t left → at + 16 ≤ length out
-    → left ≡ take 16 (drop at out)
-copied_last out at p h =
-    let long = length-drop at out in
-    let all = take_all (length out - at) (drop at out) (omega (arith, long)) in
-    p.stands ∙ rw (p.fits, all, le-leb 16 (length (drop at out)) (omega (arith, long))) (append-nil (take 16 (drop at out)))
-
 -- The sixteen entries past the end are put back: then all after it is as lent.
-pub put_back : {left kept : List ℕ} {to : ℕ} (lent mid xs : List ℕ) (end : ℕ) → Laid lent 0 xs end mid → to ≡ end
-    → kept ≡ take 16 (drop to lent) → PutAt mid to kept left → left ≡ xs ++ drop end lent
-put_back lent mid xs end p same k e =
-    e
-    ∙ rw (k, same)
+pub put_back : {mid kept : List ℕ} {end : ℕ} (lent xs : List ℕ) (k : ℕ) → Laid lent 0 xs end mid → k ≡ 16
+    → kept ≡ take k (drop end lent) → put_mid end k mid kept ≡ xs ++ drop end lent
+put_back {mid} {kept} {end} lent xs k p sixteen e =
+    put_at mid kept end k sixteen
+    ∙ rw (e, sixteen)
     (ap₂ (λ (l r : List ℕ). l ++ take 16 (drop end lent) ++ r) p.front (p.back ∙ sym (drop-drop 16 end lent))
     ∙ append_assoc xs (take 16 (drop end lent)) (drop 16 (drop end lent))
     ∙ ap (λ (l : List ℕ). xs ++ l) (take-append-drop 16 (drop end lent)))

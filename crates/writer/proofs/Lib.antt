@@ -1,5 +1,4 @@
 -- Laws that the proofs share; `Drawn` has what other crates come for.
-pub mod Numbers
 pub mod Columns
 pub mod Rows
 pub mod Drawn

@@ -1,17 +1,15 @@
--- Places below sixteen in rows of w entries, where a product by 34 / w and a shift divide by w: nothing leaves sixteen bits.
+-- Places below sixteen in rows of w entries, where a product by 34 / w and a shift divide by w.
 use mathlib.Core.Path.{◌≡◌, sym, ap, ap₂, ◌∙◌}
 use mathlib.Core.List.{List}
 use Prim.Native.Nat.{ℕ, ◌+◌, ◌-◌, ◌*◌, ◌/◌, ◌%◌, ◌<◌, ◌≤◌}
-use native.Mathlib.Nat.{mul-le-mul, mod-lt, div-le_self, div-mul-le_self, mod-eq-sub-div-mul}
+use native.Mathlib.Nat.{div-mul-le_self, mod-eq-sub-div-mul}
 use native.Mathlib.Omega.{arith}
 use lib.Dec.{eqb, eqb→eq}
 use lib.ListN.{length, drop, get_or, length-drop}
 use lib.Seq.{get_or-drop}
-use mir.Syntax.{w16}
-use mir.Val.{Fits}
 use Rattle.ground.specs.Lists.{every}
 use Rattle.ground.proofs.Tests.{every_at}
-use Rattle.turn.specs.Phase.{turn, half, phase}
+use Rattle.turn.specs.Phase.{phase}
 use Rattle.offsets.specs.Offsets.{fed}
 use Rattle.offsets.proofs.Fed.{fed_at}
 use Rattle.writer.specs.Blocks.{placed}
@@ -30,37 +28,12 @@ row_is w i few h =
     let tested = every_at 5 (λ u. every 16 (λ j. eqb (row u j) (j / u))) tt w (omega arith) in
     eqb→eq _ _ (every_at 16 (λ j. eqb (row w j) (j / w)) tested i h)
 
--- the numbers of a place, and with them the phase of its entry before what is added
-pub record Bounds (w i x y : ℕ) : Type 0 where
-  pub product : Fits w16 (i * (34 / w))
-  pub within : row w i * w ≤ i
-  pub front : Fits w16 (row w i * w)
-  pub across : Fits w16 (row w i * x)
-  pub down : Fits w16 (rest w i * y)
-  pub both : Fits w16 (row w i * x + rest w i * y)
-  pub sum : (c : ℕ) → c ≤ 511 + half → Fits w16 (c + (row w i * x + rest w i * y))
-  pub all : (c o : ℕ) → c ≤ 511 + half → o < turn → Fits w16 (c + (row w i * x + rest w i * y) + o)
-
 module _ (w i : ℕ) (some : 1 ≤ w) (few : w ≤ 4) (h : i < 16) where
   rest_is : rest w i ≡ i % w
   rest_is = rw (row_is w i few h) (sym (mod-eq-sub-div-mul i w))
 
-  pub bounds : (x y : ℕ) → x ≤ 511 → y ≤ 511 → Bounds w i x y
-  bounds x y left right =
-      let within : row w i * w ≤ i = rw (row_is w i few h) (div-mul-le_self i w) in
-      let a : row w i * x ≤ 7665 = mul-le-mul {n₂ = 15} {m₂ = 511}
-      (rw (row_is w i few h) (omega (arith, div-le_self i w))) left in
-      let b : rest w i * y ≤ 1533 = mul-le-mul {n₂ = 3} {m₂ = 511} (rw rest_is (omega (arith, mod-lt i some))) right in
-      record {
-        product = omega (arith, mul-le-mul {n₁ = i} {n₂ = 15} {m₂ = 34} (omega arith) (div-le_self 34 w));
-        within = within;
-        front = omega (arith, within);
-        across = omega arith;
-        down = omega arith;
-        both = omega arith;
-        sum = λ c k. omega arith;
-        all = λ c o k l. omega arith;
-      }
+  pub within : row w i * w ≤ i
+  within = rw (row_is w i few h) (div-mul-le_self i w)
 
   entry_placed : (x y c : ℕ) → phase (c + (row w i * x + rest w i * y)) ≡ get_or (placed w x y c) i 0
   entry_placed x y c =

@@ -1,5 +1,5 @@
--- Blocks as the code draws them, with sixteen places each; what stands in a buffer while blocks are put into it; and sizes.
-use Rattle.std.specs.Prelude.{◌≡◌, Bool, ◌&&◌, List, [], ◌∷◌, ◌++◌, ℕ, ◌+◌, ◌*◌, ◌≤◌, leb, length, take, drop}
+-- Blocks as the code draws them, with sixteen places each; what stands in a buffer while blocks are drawn into it; and sizes.
+use Rattle.std.specs.Prelude.{◌≡◌, List, [], ◌∷◌, ◌++◌, ℕ, ◌+◌, ◌*◌, ◌≤◌, length, take, drop}
 use Rattle.turn.specs.Column.{grid, column}
 use Rattle.plan.specs.declared.Drawing.{Drawing}
 use Rattle.plan.specs.Drawing.{entries, height}
@@ -9,26 +9,12 @@ use Rattle.plan.specs.Drawing.{entries, height}
 unfoldable pub placed : ℕ → ℕ → ℕ → ℕ → List ℕ
 placed w x y c = take 16 (column (c ∷ []) (grid 16 x w y))
 
--- sixteen places are put down from place `at` on
-abbrev pub PutAt : List ℕ → ℕ → List ℕ → List ℕ → Type 0
-PutAt lent at block left = left ≡ take at lent ++ block ++ drop (at + 16) lent
-
 -- xs stands from place `at` to place `to`. What is before, and what is sixteen entries after `to` or more, is as lent.
 pub record Laid (lent : List ℕ) (at : ℕ) (xs : List ℕ) (to : ℕ) (left : List ℕ) : Type 0 where
   pub place : to ≡ at + length xs
   pub front : take to left ≡ take at lent ++ xs
   pub back : drop (to + 16) left ≡ drop (to + 16) lent
   pub long : length left ≡ length lent
-
--- whether sizes can be drawn at all, and in a buffer of so many entries
-abbrev pub small : ℕ → ℕ → ℕ → ℕ → Bool
-small v pairs rows columns =
-    leb v 8 && leb pairs 4 && leb 1 columns && leb columns 4 && leb (rows * columns) 16
-    && leb (2 * (pairs * (rows * columns))) 32
-
--- the entries that v layers need, with sixteen past the last
-abbrev pub need : ℕ → ℕ → ℕ → ℕ → ℕ
-need v pairs rows columns = v * (2 * (pairs * (rows * columns))) + 16
 
 -- sizes that can be drawn, in numbers
 pub record DrawnIn (s : Drawing) (room : ℕ) : Type 0 where

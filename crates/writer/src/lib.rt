@@ -1,76 +1,60 @@
 // The matrix of a plan, written into a lent buffer. Knows no report and no codebook.
 #![tactic(auto)]
 
-ghost use Rattle.std.specs.Prelude.{◌≡◌, ◌&&◌, ◌*◌, leb, length};
+ghost use Rattle.std.specs.Prelude.{◌≡◌, ◌*◌, Some, None, length};
 ghost use Rattle.ground.specs.Cases.{◌⇒◌∣◌};
-ghost use Rattle.offsets.specs.Offsets.{Low};
-ghost use Rattle.plan.specs.Drawing.{height, drawn, Written};
-ghost use Rattle.writer.specs.Blocks.{Laid, small, need, DrawnIn};
+ghost use Rattle.plan.specs.Drawing.{height, drawn, drawable, Written};
+ghost use Rattle.writer.specs.Blocks.{Laid, DrawnIn};
 
+use fill::{PLACES, Ports};
 use plan::Drawing;
 use turn::Part;
 
 mod fill;
 
-// The entries that a buffer needs for such sizes, sixteen past the last layer among them. 0 where they cannot be drawn in
-// so many.
-fn needed(v: u32, pairs: u32, rows: u32, columns: u32, room: usize) -> usize
-    ensures { result ≡ (small v pairs rows columns && leb (need v pairs rows columns) room ⇒ need v pairs rows columns ∣ 0) }
+// The entries of a drawing's layers, where its sizes are a plan's and so many and sixteen past the last have room.
+fn entries(s: &Drawing, room: usize) -> Option<usize>
+    ensures { result ≡ (drawable s.now room ⇒ Some (s.now.v * height s.now) ∣ None) }
 {
-    let h = rows as usize * columns as usize;
-    if !((v <= 8) & (pairs <= 4) & (1 <= columns) & (columns <= 4) & (h <= 16)) {
-        return 0;
+    let block = s.rows as usize * s.columns as usize;
+    if !((s.v <= 8) & (s.pairs <= 4) & (1 <= s.columns) & (s.columns <= 4) & (block <= 16)) {
+        return None;
     }
-    let height = 2 * (pairs as usize * h);
+    let height = 2 * (s.pairs as usize * block);
     if 32 < height {
-        return 0;
+        return None;
     }
-    let n = v as usize * height + 16;
-    if room < n {
-        return 0;
+    let n = s.v as usize * height;
+    if room < n + PLACES {
+        return None;
     }
-    n
+    Some(n)
 }
 
 // The layers with offsets, one after the other. Some entries after the last change, fewer than sixteen.
-fn layers(s: Drawing, offsets: &[Part; offsets::PLACES], out: &mut [Part])
-    requires { DrawnIn s (length out.old) × Low offsets.now }
-    ensures { Laid out.old 0 (drawn offsets.now s s.v) (s.v * height s) out.new }
+fn layers(s: &Drawing, ports: Ports, out: &mut [Part])
+    requires { DrawnIn s.now (length out.old) }
+    ensures { Laid out.old 0 (drawn ports.entry.offsets.now s.now s.now.v) (s.now.v * height s.now) out.new }
 {
-    let v = s.v;
-    let steps = s.steps;
-    let co = s.co;
-    let codes = s.codes;
-    let mut j = 0;
     let mut at = 0;
-    while j < v {
-        let code = codes[j as usize];
-        let place = (code / 512 % 4) as usize;
-        let step = steps[place];
-        at = fill::column(
-            out, at, offsets, s.pairs, s.rows, s.columns, step, &co, code,
-        );
-        j += 1;
+    for &code in &s.codes[..s.v as usize] {
+        at = fill::column(s, code, ports, out, at);
     }
 }
 
 // Writes the layers of a drawing, one after the other, to the front of `out`, to each entry the offset of its port added,
 // and gives the number of their entries. A port past the last offset has none; a layer has at most 32 ports. Entries after
 // the layers stay as lent. Where the sizes are larger than any plan's, or `out` has not sixteen entries more than the layers,
-// 0 is given and all of it stays.
-pub fn matrix(s: Drawing, offsets: &[Part], out: &mut [Part]) -> usize
+// no number is given and all of it stays.
+pub fn matrix(s: Drawing, offsets: &[Part], out: &mut [Part]) -> Option<usize>
     ensures { Written offsets.now s out.old result out.new }
 {
-    let need = needed(s.v, s.pairs, s.rows, s.columns, out.len());
-    if need == 0 {
-        return 0;
-    }
-    let end = need - 16;
-    let mut kept = [0; fill::PLACES];
-    ground::copy_numbers(&out[end..], fill::PLACES, &mut kept);
+    let end = entries(&s, out.len())?;
+    let mut kept = [0; PLACES];
+    kept.copy_from_slice(&out[end..end + PLACES]);
     let mut xs = [0; offsets::PLACES];
     offsets::reduce(offsets, &mut xs);
-    layers(s, &xs, out);
-    fill::put(out, end, kept);
-    end
+    layers(&s, Ports { offsets: &xs }, out);
+    out[end..end + PLACES].copy_from_slice(&kept);
+    Some(end)
 }

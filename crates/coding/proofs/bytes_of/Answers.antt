@@ -1,25 +1,10 @@
--- A number has five bytes at most, and those of the numbers so far and of one more are those of one number more.
-use Rattle.std.proofs.Common.{refl, ◌≤◌, arith}
-use Rattle.ground.specs.Lists.{join}
-use Rattle.groups.proofs.Coded.{code_few}
-use Rattle.coding.proofs.Numbered.{length_next}
+-- Eight numbers have five bytes each at most.
+use Rattle.std.proofs.Common.{rules, arith, ◌^◌}
+use Rattle.std.proofs.lemmas.Iterator.{YieldsList-from_slice}
+use Rattle.std.proofs.lemmas.Iterator.Adapters.{fits_from_length, at_most_from_yields_List}
 use Rattle.coding.proofs.bytes_of.Goals as goal
 
-pub loop-i-init : goal.loop-i-init
-unfolding join
-loop-i-init c = record { within = omega arith; few = omega arith; counted = refl }
-
-pub overflow_add-k : goal.overflow_add-k
-overflow_add-k c =
-    let few : c.length_of-k.result ≤ 5 = rw c.length_of-k.ensures (code_few _) in
-    omega arith
-
-pub loop-i-preserved : goal.loop-i-preserved
-loop-i-preserved c =
-    let few : c.length_of-k.result ≤ 5 = rw c.length_of-k.ensures (code_few _) in
-    let next = length_next c.args.values c.loop-i.i (omega arith) in
-    record {
-      within = omega arith;
-      few = omega arith;
-      counted = omega (arith, next, c.length_of-k.ensures, c.loop-i.invariant.counted);
-    }
+pub sum-requires-clause-fits : goal.sum-requires-clause-fits
+sum-requires-clause-fits c =
+    fits_from_length _ _ 8 (2 ^ 64) (at_most_from_yields_List (YieldsList-from_slice c.args.values cc) (omega arith))
+    c.map.ensures.closure (omega arith) (λ x r q k. search rules)

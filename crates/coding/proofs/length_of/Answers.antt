@@ -10,4 +10,8 @@ pub loop-high-preserved : goal.loop-high-preserved
 loop-high-preserved c = begun_more c.loop-high.invariant (omega arith)
 
 pub returns : goal.returns
-returns c = sym (begun_last c.loop-high.invariant (omega arith))
+returns c =
+    let l = c.loop-high in
+    let five = l.invariant.five in
+    let long = begun_last l.invariant (omega arith) in
+    record { value = sym long; few = (omega arith, omega (arith, five)) }

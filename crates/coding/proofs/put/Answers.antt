@@ -1,21 +1,25 @@
--- Each turn stores one byte more of the number, and the last stands after the loop.
-use Rattle.std.proofs.Common.{arith}
-use Rattle.ground.proofs.Adds.{adds_length}
-use Rattle.coding.proofs.Putting.{more_within, last_within, stored_more, stored_last}
+-- Each byte but the last has its top bit set, and the last stands after the loop.
+use Rattle.std.proofs.Common.{◌≡◌, ℕ, ◌-◌, arith, length-take}
+use Rattle.coding.proofs.Putting.{begun_more, more_left, none_left, stored_more, stored_last}
 use Rattle.coding.proofs.put.Goals as goal
 
-pub bounds-out-k : goal.bounds-out-k
-bounds-out-k c =
-    let l = c.loop-rest in
-    omega (arith, adds_length l.invariant.adds, more_within l.invariant c.requires (omega arith))
+pub loop-byte-preserved : goal.loop-byte-preserved
+loop-byte-preserved c =
+    let l = c.loop-byte in
+    let more = more_left l.invariant.begun (omega (arith, c.length_of-last.ensures.value, length-take {A = ℕ})) in
+    record { begun = begun_more l.invariant.begun more; stored = stored_more l.invariant.begun _ l.invariant.stored (omega arith) more }
 
-pub loop-rest-preserved : goal.loop-rest-preserved
-loop-rest-preserved c = stored_more c.loop-rest.invariant c.requires (omega arith)
-
-pub bounds-out-k-2 : goal.bounds-out-k-2
-bounds-out-k-2 c =
-    let l = c.loop-rest in
-    omega (arith, adds_length l.invariant.adds, last_within l.invariant c.requires (omega arith))
+pub overflow_cast-out : goal.overflow_cast-out
+overflow_cast-out c =
+    let last =
+    none_left c.loop-byte.invariant.begun (omega (arith, c.requires, c.length_of-last.ensures.value, length-take {A = ℕ})) in
+    record { fits = omega arith }
 
 pub returns : goal.returns
-returns c = stored_last c.loop-rest.invariant c.requires (omega arith)
+returns c =
+    let l = c.loop-byte in
+    let last : l.byte-index ≡ c.length_of-last.result - 1 =
+    omega (arith, c.requires, c.length_of-last.ensures.value, length-take {A = ℕ}) in
+    rw last at (stored_last l.invariant.begun c.args.out.now l.byte-items (omega arith)
+    (omega (arith, c.requires, c.length_of-last.ensures.value)) l.invariant.stored
+    (none_left l.invariant.begun (omega (arith, c.length_of-last.ensures.value))))

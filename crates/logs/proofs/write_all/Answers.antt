@@ -1,53 +1,52 @@
 -- A report more stands where it was written; otherwise the next has no room. After the last, numbers may be left, fewer than
 -- eight.
-use Rattle.std.proofs.Common.{◌≡◌, refl, ℕ, ◌*◌, ◌/◌, ◌%◌, ◌<◌, ◌≤◌, List, length, drop, arith}
-use borrow.Author.Tests.{eq-eqb, ne_eqb}
+use Rattle.std.proofs.Common.{◌≡◌, refl, sym, ◌∙◌, ℕ, List, [], ◌*◌, ◌<◌, ◌/◌, ◌%◌, length, get_or, drop, Ok, Err, arith}
+use borrow.Author.Tests.{eq-eqb, ne_eqb, eqb-true, eqb-false}
+use Rattle.std.specs.Simd.{first_chunks}
 use Rattle.report.specs.declared.Report.{Report}
 use Rattle.eight.specs.Numbers.{report_of}
-use Rattle.coding.specs.declared.LogWritten.{LogWritten}
-use Rattle.coding.specs.Coding.{WritesReport}
+use Rattle.eight.proofs.Eights.{report_of_chunk}
+use Rattle.logs.specs.declared.Unwritten.TheVariants.{Incomplete}
 use Rattle.logs.proofs.Several.{none_standing, one_standing, not_standing, all_standing}
 use Rattle.logs.proofs.write_all.Goals as goal
 
--- the report of a place is written
-written : {r : Report} {given : LogWritten} {lent left : List ℕ} {i from : ℕ} (numbers : List ℕ) (k : ℕ) → i ≡ 8 * k
-    → r ≡ report_of (drop i numbers) → WritesReport r from lent given left
-    → WritesReport (report_of (drop (8 * k) numbers)) from lent given left
-written numbers k place is w = rw (is, place) at w
+-- the next eight numbers make the next report
+next_report : {r : Report} {chunks : List (List ℕ)} (k : ℕ) (numbers : List ℕ) (j : ℕ) → chunks ≡ first_chunks 8 k numbers
+    → r ≡ report_of (get_or chunks j []) → j < k → r ≡ report_of (drop (8 * j) numbers)
+next_report k numbers j cut is more = rw cut at is ∙ report_of_chunk k numbers j more
 
-pub loop-i-init : goal.loop-i-init
-loop-i-init c = record { standing = none_standing _ _ _; place = omega arith }
+pub loop-reports-init : goal.loop-reports-init
+loop-reports-init c = none_standing _ _ _
 
-pub returns-then-w-ne0 : goal.returns-then-w-ne0
-returns-then-w-ne0 c =
-    let l = c.loop-i in
-    let more : l.reports < length c.args.numbers.now / 8 = omega (arith, l.invariant.standing.few) in
-    not_standing _ _ _ l.invariant.standing more
-    (written _ _ l.invariant.place c.report_at.ensures c.write-w.ensures) (λ none. omega arith)
+pub returns-in_default : goal.returns-in_default
+returns-in_default c =
+    let l = c.loop-reports in
+    let chunks = c.as_chunks.ensures in
+    let more : l.reports < length c.args.numbers.now / 8 = omega (arith, chunks.front_len) in
+    let next = next_report _ c.args.numbers.now l.reports chunks.front c.report_of.ensures more in
+    not_standing _ _ _ l.invariant more (rw next at c.in_default.ensures)
 
-pub loop-i-preserved : goal.loop-i-preserved
-loop-i-preserved c =
-    let l = c.loop-i in
-    let more : l.reports < length c.args.numbers.now / 8 = omega (arith, l.invariant.standing.few) in
-    record {
-      standing =
-          one_standing _ _ _ l.invariant.standing more
-          (written _ _ l.invariant.place c.report_at.ensures c.write-w.ensures) (omega arith);
-      place = omega arith;
-    }
+pub loop-reports-preserved : goal.loop-reports-preserved
+loop-reports-preserved c =
+    let l = c.loop-reports in
+    let chunks = c.as_chunks.ensures in
+    let more : l.reports < length c.args.numbers.now / 8 = omega (arith, chunks.front_len) in
+    let next = next_report _ c.args.numbers.now l.reports chunks.front c.report_of.ensures more in
+    one_standing _ _ _ l.invariant more (rw next at c.in-Ok.ensures)
 
-pub returns-then-i-numbers : goal.returns-then-i-numbers
-returns-then-i-numbers c =
-    let l = c.loop-i in
-    let few = l.invariant.standing.few in
-    let all : length c.args.numbers.now / 8 ≤ l.reports = omega (arith, few) in
-    let some : length c.args.numbers.now % 8 ≡ 0 → ⊥ = λ none. omega (arith, few, all) in
-    all_standing _ _ _ l.invariant.standing all (rw (ne_eqb _ 0 some) refl)
+pub returns-then-is_empty : goal.returns-then-is_empty
+returns-then-is_empty c =
+    let l = c.loop-reports in
+    let chunks = c.as_chunks.ensures in
+    let all : l.reports ≡ length c.as_chunks.result.0.now = omega (arith, l.invariant.few, chunks.front_len) in
+    let none : length c.args.numbers.now % 8 ≡ 0 = omega (arith, chunks.back_len, eqb-true _ _ (sym c.if-is_empty.ensures)) in
+    rw all at (all_standing _ _ _ l.invariant (omega (arith, chunks.front_len)) {all = Ok tt} (rw (eq-eqb _ 0 none) refl))
 
-pub returns-else-i-numbers : goal.returns-else-i-numbers
-returns-else-i-numbers c =
-    let l = c.loop-i in
-    let few = l.invariant.standing.few in
-    let all : length c.args.numbers.now / 8 ≤ l.reports = omega (arith, few) in
-    let none : length c.args.numbers.now % 8 ≡ 0 = omega (arith, few, all) in
-    all_standing _ _ _ l.invariant.standing all (rw (eq-eqb _ 0 none) refl)
+pub returns-else-is_empty : goal.returns-else-is_empty
+returns-else-is_empty c =
+    let l = c.loop-reports in
+    let chunks = c.as_chunks.ensures in
+    let all : l.reports ≡ length c.as_chunks.result.0.now = omega (arith, l.invariant.few, chunks.front_len) in
+    let left = eqb-false _ _ (sym c.if-is_empty.ensures) in
+    let some : length c.args.numbers.now % 8 ≡ 0 → ⊥ = λ none. left (chunks.back_len ∙ none) in
+    rw all at (all_standing _ _ _ l.invariant (omega (arith, chunks.front_len)) {all = Err Incomplete} (rw (ne_eqb _ 0 some) refl))

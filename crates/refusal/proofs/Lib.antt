@@ -1,0 +1,2 @@
+-- What outcomes tell.
+pub mod Outcome

@@ -1,0 +1,2 @@
+-- What contracts of refusals cite.
+pub mod Outcome
