@@ -62,6 +62,7 @@ pub fn number_at(bytes: &[u8], from: usize) -> Result<Numeral, Fault>
 {
     let mut value: u32 = 0;
     let mut weight: u32 = 1;
+    // by place, since a fault names the place of its byte
     for at in from..bytes.len() {
         let b = bytes[at];
         if is_padded(at - from, b) {

@@ -77,13 +77,13 @@ impl From<Taken> for LogStep {
     }
 }
 
-// Why some of the numbers of several reports are not written, each case by a number.
+// Why some of the numbers of several reports are not written.
 #[derive(Clone, Copy, PartialEq, Eq)]
 pub enum Unwritten {
     // There is no room for the whole of the next report.
-    NoRoom = 1,
+    NoRoom,
     // They are fewer than the eight of a report.
-    Incomplete = 2,
+    Incomplete,
 }
 
 // What is given where several reports are to be written: how many were, the place behind the last of them, and whether these
@@ -153,7 +153,7 @@ impl<'a> Reader<'a> {
 }
 
 // Reads a whole log: how many reports stand before its end or its first fault, and which of both it was. A step says where
-// the next one starts, so that no index is counted.
+// the next one starts, so that no index is counted; and a reader is no `Iterator`, which would count them.
 pub fn reports_in(log: &[u8]) -> Contents
     ensures { Holds log.now result }
 {

@@ -11,6 +11,8 @@ use turn::Beam;
 
 // What a report asks for: the first of its codebook's own refusals that applies; the bytes of the beam mask; its layers; its
 // ports P and the entries v·P of its precoder; and the beams that the mask is asked for, with how many bits it has for each l.
+// Ports, entries and beams count where `own` is Ok alone; they stand beside it, since the bytes and v are asked of a refused
+// report too (specs/Asks.antt).
 #[derive(Clone, Copy)]
 pub struct Needs<'a> {
     pub own: Result<(), Refusal>,

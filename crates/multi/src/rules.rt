@@ -109,7 +109,8 @@ impl Measured {
         Ok(())
     }
 
-    // The first of 6, 7 and 8 that applies, at a setting.
+    // The first of 6, 7 and 8 that applies, at a setting. `report` tests the same three of its own: one function for both would
+    // take six numbers, and be no shorter.
     fn on_beams(self) -> Result<(), Refusal>
         requires { is_panel_setting self.report.ng self.report.n1 self.report.n2 ≡ true }
         ensures { result ≡ outcome (first (rule self.report) (6 ∷ 7 ∷ 8 ∷ [])) }

@@ -11,7 +11,7 @@ use settings::Sizes;
 use turn::{Beam, Part, Phase};
 
 // The codes of one to four layers: 512 for B', 256 for the co-phases, and 170 where half a turn is added to the second
-// polarisation of every panel.
+// polarisation of every panel. Those of crate `single` are of two blocks, or of four quarters.
 const ONE: [u16; 8] = [256, 0, 0, 0, 0, 0, 0, 0]; // W1 B
 
 const TWO: [u16; 8] = [256, 938, 0, 0, 0, 0, 0, 0]; // W1 B, W2 B'

@@ -12,6 +12,7 @@ use multi::{Own, PanelReport};
 use plan::{Accepted, Drawing, Lineup};
 use turn::Beam;
 
+// `verdict` and `report` have types of this name for their reports: other facts, and other things that are made of them.
 #[derive(Clone, Copy)]
 pub struct Ranged {
     pub r: PanelReport,

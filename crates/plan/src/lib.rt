@@ -25,7 +25,7 @@ pub struct Record {
 // What the writer is handed of a plan: v layers; a column of so many pairs of blocks, each block of rows by columns; the
 // steps of up to four beams, x + 512·y for x parts of a turn from row to row and y from entry to entry; and up to eight
 // co-phases. The code of a layer is 512 times the place of its beam, 256 more where it takes the co-phases, and 2^q more
-// where half a turn is added to block q.
+// where half a turn is added to block q. The arrays have room for any plan, since nothing here is on a heap.
 #[derive(Clone, Copy)]
 pub struct Drawing {
     pub v: u32,

@@ -23,11 +23,12 @@ pub struct FirstLine {
 #[derive(Clone, Copy)]
 pub enum Answer {
     Accepted(FirstLine),
+    // any number that a record has
     Refused(u32),
     Unreadable,
 }
 
-// An answer, and how many bytes of text stand in the lent buffer.
+// An answer, and how many bytes of text stand in the buffer, which is the caller's.
 #[derive(Clone, Copy)]
 pub struct Printed {
     pub answer: Answer,
@@ -37,7 +38,7 @@ pub struct Printed {
 // The bytes of the longest text: a buffer of so many has room for every answer.
 pub const LONGEST_TEXT: usize = text::LONGEST_TEXT;
 
-// How a record answers.
+// How a record answers. As a `From` it would be public, for one caller.
 fn answer_by(a: Record) -> Answer
     ensures { result ≡ answer_by a }
 {

@@ -1,8 +1,8 @@
 // Why a report is refused, by number.
 #![tactic(auto)]
 
-// A refusal. Its number is what C is given and what a return names. Numbers are open: a codebook that is to come brings its
-// own, and what all codebooks share hands on any.
+// A refusal. Its number is what C is given and what a return names. It is no enum: `masks::admit` and `plan::Record::refused`
+// promise an answer for any number.
 #[derive(Clone, Copy, PartialEq, Eq)]
 pub struct Refusal {
     pub number: u32,

@@ -91,7 +91,7 @@ impl Entry for i16 {
     }
 }
 
-// The same by way of a buffer of its own.
+// What `entries` writes, by way of a buffer of its own with so many places.
 fn within<E: Entry, const OWN: usize>(s: Drawing, offsets: &[Part], out: &mut [E])
     requires { OWN ≤ 272 }
     ensures { out.new ≡ over (E.numbers_of (fitting_in offsets.now s OWN (E.room_in (length out.old)))) out.old }

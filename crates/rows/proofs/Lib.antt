@@ -1,2 +1,3 @@
--- The theorem on what is public.
+-- A law of columns, and the theorems on what is public.
+pub mod Blanks
 pub mod Unique

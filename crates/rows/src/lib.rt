@@ -59,7 +59,7 @@ pub fn k_three(n1: u32, n2: u32, i13: u32) -> Beam
     }
 }
 
-// The row for i13 at two layers, or at three and four.
+// The row for i13 at two layers, or at three and four. The numbers go one by one: each codebook has reports of its own.
 pub fn k_of(n1: u32, n2: u32, v: u32, i13: u32) -> Beam
     ensures { result ≡ get_or (eqb v 2 ⇒ k_two n1 n2 ∣ k_three n1 n2) i13 (beam 0 0) }
 {

@@ -1,5 +1,5 @@
 -- Numbers in decimals and lines of numbers: digit by digit, and how long they are.
-use mathlib.Core.Path.{◌≡◌, sym}
+use mathlib.Core.Path.{◌≡◌, sym, ◌∙◌}
 use mathlib.Core.List.{List, [], ◌∷◌}
 use Prim.Native.Nat.{ℕ, zero, suc, ◌+◌, ◌*◌, ◌/◌, ◌^◌, ◌<◌, ◌≤◌}
 use native.Mathlib.Nat.{suc-mul}
@@ -23,6 +23,10 @@ last_digit = search rules
 -- those that the library writes
 pub decimal_written : (n : ℕ) → n < 2 ^ 64 → written n ≡ decimal n
 decimal_written n h = sym (decimal_from_appends decimal_in last_digit 20 n h (length-decimal-le 20 n (lit≤ tt) (omega arith) h))
+
+-- the bytes of a number that is formatted
+pub formatted : {bytes text : List ℕ} (n : ℕ) → n < 2 ^ 64 → bytes ≡ text → text ≡ written n → bytes ≡ decimal n
+formatted n h value format = value ∙ format ∙ decimal_written n h
 
 -- ---- how long they are
 

@@ -8,7 +8,7 @@ use plan::Record;
 use std::marker::Model;
 use turn::Part;
 
-// A text in the making, in an array that has room for any.
+// A text in the making, in an array that has room for any, since nothing here is on a heap.
 #[derive(Drop)]
 pub struct Text {
     bytes: [u8; LONGEST_TEXT],
@@ -49,7 +49,8 @@ impl Text {
         self.length = end;
     }
 
-    // A number, and what follows it where so many words are left.
+    // A number, and what follows it where so many words are left. `crate::number` writes it into a lent buffer, which may have no
+    // room for it.
     pub fn number(&mut self, n: u64, left: usize)
         requires { length self.old + length (ended n left) ≤ longest }
         ensures { self.new ≡ self.old ++ ended n left }
@@ -68,7 +69,7 @@ impl Text {
         }
     }
 
-    // A line for each of v layers of p phases.
+    // A line for each of v layers of p phases; by place, since chunks are of one entry at least, and p may be 0.
     pub fn lines(&mut self, phases: &[Part], p: usize, v: usize)
         requires many { v * p ≤ length phases.now }
         requires room { length self.old + length (lines_of v p phases.now) ≤ longest }

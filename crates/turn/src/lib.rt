@@ -14,7 +14,7 @@ pub const TURN: Part = 384;
 
 // The beam (l,m), or a step from one beam to another.
 #[repr(C)]
-#[derive(Clone, Copy, Default)]
+#[derive(Clone, Copy)]
 pub struct Beam {
     pub l: u32,
     pub m: u32,

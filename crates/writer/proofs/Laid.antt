@@ -43,6 +43,10 @@ laid_append {lent} {mid} {left} {xs} {ys} {at} {to} {end} p q = record {
   long = q.long ∙ p.long;
 }
 
+-- the entries from place n to place n + 16
+pub sixteen : (n : ℕ) → n + 16 - n ≡ 16
+sixteen n = omega arith
+
 -- sixteen entries put in the place of those from place `at` on
 put_at : (lent block : List ℕ) (at k : ℕ) → k ≡ 16 → put_mid at k lent block ≡ take at lent ++ block ++ drop (at + 16) lent
 put_at lent block at k e =
@@ -51,7 +55,7 @@ put_at lent block at k e =
 -- the first h of them
 pub laid_put : (lent block : List ℕ) (at h k : ℕ) → k ≡ 16 → length block ≡ 16 → h ≤ 16 → at + 16 ≤ length lent
     → Laid lent at (take h block) (at + h) (put_mid at k lent block)
-laid_put lent block at h k e sixteen few room = record {
+laid_put lent block at h k e many few room = record {
   place = omega (arith, length-take-le h block (omega arith));
   front = take_over (take at lent) block (drop (at + 16) lent) at h put here (omega arith);
   back = drop_later left lent (at + 16) (at + h + 16) (omega arith) kept;
@@ -127,9 +131,9 @@ drawn_place os s j p = p.place ∙ omega (arith, length_drawn os s j)
 -- The sixteen entries past the end are put back: then all after it is as lent.
 pub put_back : {mid kept : List ℕ} {end : ℕ} (lent xs : List ℕ) (k : ℕ) → Laid lent 0 xs end mid → k ≡ 16
     → kept ≡ take k (drop end lent) → put_mid end k mid kept ≡ xs ++ drop end lent
-put_back {mid} {kept} {end} lent xs k p sixteen e =
-    put_at mid kept end k sixteen
-    ∙ rw (e, sixteen)
+put_back {mid} {kept} {end} lent xs k p many e =
+    put_at mid kept end k many
+    ∙ rw (e, many)
     (ap₂ (λ (l r : List ℕ). l ++ take 16 (drop end lent) ++ r) p.front (p.back ∙ sym (drop-drop 16 end lent))
     ∙ append_assoc xs (take 16 (drop end lent)) (drop 16 (drop end lent))
     ∙ ap (λ (l : List ℕ). xs ++ l) (take-append-drop 16 (drop end lent)))

@@ -17,6 +17,7 @@ fn entries(s: &Drawing, room: usize) -> Option<usize>
     ensures { result ≡ (drawable s.now room ⇒ Some (s.now.v * height s.now) ∣ None) }
 {
     let block = s.rows as usize * s.columns as usize;
+    // one branch for all five
     if !((s.v <= 8) & (s.pairs <= 4) & (1 <= s.columns) & (s.columns <= 4) & (block <= 16)) {
         return None;
     }

@@ -1,3 +1,4 @@
+-- It is whether one of the beams has a zero bit.
 use Rattle.std.proofs.Common.{◌∙◌, ◌+◌, ◌*◌, rules, tests}
 use Rattle.std.proofs.lemmas.Iterator.{YieldsList-from_slice}
 use Rattle.std.proofs.lemmas.Iterator.Search.{any_from_yields_List}

@@ -1,3 +1,4 @@
+-- What is written of a judged report is its answer.
 use mathlib.Core.Path.{sym, ◌∙◌}
 use Rattle.render.proofs.Judged as judged
 use Rattle.precoder.proofs.entries.Goals as goal

@@ -1,10 +1,10 @@
 -- The digits and the byte that follows them stand at the front where both fit.
-use Rattle.std.proofs.Common.{◌≡◌, ◌∙◌, refl, true, ℕ, ◌+◌, ◌<◌, List, ◌++◌, length, drop, set, arith, Some}
+use Rattle.std.proofs.Common.{◌≡◌, refl, true, ℕ, ◌+◌, ◌<◌, List, ◌++◌, length, drop, set, arith, Some}
 use Rattle.ground.specs.Lent.{Writes, Adds}
 use Rattle.ground.proofs.Adds.{adds_byte}
 use Rattle.ground.proofs.Writes.{writes_too_many, adds_front}
 use Rattle.text.specs.Words.{decimal, ending, ended}
-use Rattle.text.proofs.Words.{decimal_written, ended_long}
+use Rattle.text.proofs.Words.{formatted, ended_long}
 use Rattle.text.proofs.number.Goals as goal
 
 -- the digits are copied, and the byte is stored after them
@@ -18,10 +18,10 @@ stored {digits} n left out d c b h =
 
 pub returns-then-out-k : goal.returns-then-out-k
 returns-then-out-k c =
-    let digits = c.as_bytes-digits.ensures.value ∙ c.format.ensures.text ∙ decimal_written c.args.n (omega arith) in
+    let digits = formatted c.args.n (omega arith) c.as_bytes-digits.ensures.value c.format.ensures.text in
     writes_too_many _ _ (rw (ended_long, ← digits) (omega arith))
 
 pub returns : goal.returns
 returns c =
-    let digits = c.as_bytes-digits.ensures.value ∙ c.format.ensures.text ∙ decimal_written c.args.n (omega arith) in
+    let digits = formatted c.args.n (omega arith) c.as_bytes-digits.ensures.value c.format.ensures.text in
     stored _ _ _ digits c.copy_from_slice.ensures.after c.ending.ensures (omega arith)

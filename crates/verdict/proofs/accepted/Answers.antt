@@ -1,3 +1,4 @@
+-- Its layers are those of the plan, and it draws by them.
 use Rattle.std.proofs.Common.{◌∙◌}
 use Rattle.single.specs.Drawing.{drawing_of}
 use Rattle.single.proofs.InPlace.{whole_lineup_lem}

@@ -1,3 +1,4 @@
+-- i2 of two ports is small.
 use Rattle.std.proofs.Common.{arith}
 use Rattle.report.proofs.InRange.{two_ports_i2}
 use Rattle.verdict.proofs.bit_read.Goals as goal

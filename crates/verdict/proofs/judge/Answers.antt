@@ -1,3 +1,4 @@
+-- The beams that are read stand in the first of four places.
 use Rattle.std.proofs.Common.{ap, ◌∙◌, arith, length-take}
 use Rattle.turn.specs.declared.Beam.{Beam}
 use Rattle.masks.specs.Admitted.{bits_of}

@@ -1,6 +1,6 @@
 -- What is drawn with the offsets reduced is what is drawn with them, and the sixteen entries after the layers are kept and
 -- put back.
-use Rattle.std.proofs.Common.{◌≡◌, true, Some, None, List, ◌++◌, ℕ, ◌+◌, ◌-◌, ◌*◌, ◌≤◌, length, drop, refl, sym, ap, ap₂, subst, ◌∙◌, arith}
+use Rattle.std.proofs.Common.{◌≡◌, true, Some, None, List, ◌++◌, ℕ, ◌+◌, ◌*◌, ◌≤◌, length, drop, refl, sym, ap, ap₂, subst, ◌∙◌, arith}
 use native.Mathlib.Nat.{mul-le-mul}
 use Rattle.ground.specs.Cases.{◌⇒◌∣◌}
 use Rattle.offsets.specs.Offsets.{Low}
@@ -8,7 +8,7 @@ use Rattle.offsets.proofs.Places.{reduced_low}
 use Rattle.plan.specs.declared.Drawing.{Drawing}
 use Rattle.plan.specs.Drawing.{height, drawn, drawable}
 use Rattle.writer.specs.Blocks.{Laid, DrawnIn}
-use Rattle.writer.proofs.Laid.{put_back}
+use Rattle.writer.proofs.Laid.{sixteen, put_back}
 use Rattle.writer.proofs.Drawn.{drawable_sizes, no_number, is_number}
 use Rattle.writer.proofs.Offsets.{drawn_reduced}
 use Rattle.writer.proofs.Room.{layers_drawn, layers_none, length_layers}
@@ -53,9 +53,6 @@ layers-requires c = (fit _ _ _ c.in_ok-end.ensures).sizes
 
 pub invariant_of-layers : goal.invariant_of-layers
 invariant_of-layers c = record { low = subst Low (sym c.reduce.ensures) (reduced_low _) }
-
-sixteen : (n : ℕ) → n + 16 - n ≡ 16
-sixteen n = omega arith
 
 pub returns : goal.returns
 returns c =

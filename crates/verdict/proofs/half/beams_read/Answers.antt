@@ -1,3 +1,4 @@
+-- The beam lies within the setting, so that its numbers are small.
 use Rattle.std.proofs.Common.{arith}
 use Rattle.verdict.proofs.Given.{beam_within, few_of_each}
 use Rattle.verdict.proofs.Asked.{half_bits_asked}

@@ -10,7 +10,7 @@ use Rattle.plan.specs.declared.Drawing.{Drawing}
 use Rattle.plan.specs.Drawing.{height, place_of, co_at, co_row, beam_at, column_at, step_x, step_y}
 use Rattle.writer.specs.Blocks.{placed, Laid, DrawnIn}
 use Rattle.writer.proofs.Columns.{length_row, row_at, co_small}
-use Rattle.writer.proofs.Laid.{laid_none, blocks_of, laid_block, column_place}
+use Rattle.writer.proofs.Laid.{laid_none, sixteen, blocks_of, laid_block, column_place}
 use Rattle.writer.proofs.fill.column.Goals as goal
 
 -- the turns of the loop are the blocks
@@ -62,9 +62,6 @@ slice_bounds-draw-end c =
     let s = c.args.s.now in
     let l = c.loop-c in
     (room _ s c.args.code _ l.c-index c.requires.0 c.requires.1 c.co_phases-co.ensures c.loop-c-test.true l.invariant).first
-
-sixteen : (n : ℕ) → n + 16 - n ≡ 16
-sixteen n = omega arith
 
 -- sixteen places from place n on
 places : (n : ℕ) (out : List ℕ) → n + 16 ≤ length out → length (take (n + 16 - n) (drop n out)) ≡ 16

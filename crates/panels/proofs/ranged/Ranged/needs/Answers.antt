@@ -1,3 +1,4 @@
+-- One layer asks for the bit of B alone.
 use mathlib.Core.Path.{refl, ◌∙◌}
 use borrow.Author.Tests.{eq-eqb, ne_eqb}
 use Rattle.panels.proofs.Asked.{asks}

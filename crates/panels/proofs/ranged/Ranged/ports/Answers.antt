@@ -1,3 +1,4 @@
+-- A setting has 32 ports at most.
 use native.Mathlib.Omega.{arith}
 use Rattle.panels.proofs.Asked.{ports_are, ports_few}
 use Rattle.panels.proofs.ranged.Ranged.ports.Goals as goal

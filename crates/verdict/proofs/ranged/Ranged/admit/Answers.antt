@@ -1,3 +1,4 @@
+-- What it asks for is what the codebook asks for.
 use Rattle.std.proofs.Common.{◌∙◌, refl}
 use Rattle.masks.proofs.Refused.{admitted_refusal}
 use Rattle.single.specs.Single.{indices, single}

@@ -1,3 +1,4 @@
+-- At most 8 layers of 32 ports.
 use Rattle.std.proofs.Common.{arith}
 use Rattle.verdict.proofs.Given.{entries_few}
 use Rattle.verdict.proofs.ranged.Ranged.entries.Goals as goal

@@ -1,3 +1,4 @@
+-- A report whose beams are given is in range, and they are said of it.
 use Rattle.std.proofs.Common.{sym, ◌∙◌}
 use Rattle.verdict.proofs.Given.{ranged}
 use Rattle.verdict.proofs.ranged.Ranged.of.Goals as goal
