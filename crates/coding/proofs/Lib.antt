@@ -1,4 +1,5 @@
 -- Laws of a number and of a report as they are written; then theorems.
+pub mod Lengths
 pub mod Putting
 pub mod Numbered
 pub mod Placed

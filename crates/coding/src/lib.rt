@@ -15,18 +15,19 @@ pub struct NoRoom {
     pub from: usize,
 }
 
-// How many bytes a number has, 1 to 5. It is divided as it is written: a form by `ilog2`, which 0 has none of, is no plainer.
+// How many bytes a number has, 1 to 5: each has seven bits of it.
+#[tactic(auto, using(crate::proofs::Lengths::one, crate::proofs::Lengths::two, crate::proofs::Lengths::three, crate::proofs::Lengths::four, crate::proofs::Lengths::five))]
 fn length_of(n: u32) -> usize
     ensures value { result ≡ length (code n) }
     ensures few { (1 ≤ result) × (result ≤ 5) }
 {
-    let mut high = n;
-    let mut k = 0;
-    while high >= 128 {
-        high /= 128;
-        k += 1;
+    match n {
+        0..=0x7f => 1,
+        0x80..=0x3fff => 2,
+        0x4000..=0x1f_ffff => 3,
+        0x20_0000..=0xfff_ffff => 4,
+        _ => 5,
     }
-    k + 1
 }
 
 // How many bytes the numbers of a report have.

@@ -13,6 +13,7 @@ use borrow.Rule.Slice.PartMut.{put_mid}
 use Rattle.std.specs.Prelude.{Option, Some, None}
 use Rattle.std.specs.Option.{unwrap_or}
 use Rattle.ground.specs.Cases.{◌⇒◌∣◌}
+use Rattle.ground.specs.Copied.{Copied}
 use Rattle.ground.specs.Lent.{is_written, Writes, Adds}
 use Rattle.ground.proofs.Adds.{adds_part, adds_laid}
 
@@ -38,6 +39,15 @@ pub writes_front : {left : List ℕ} (bytes lent : List ℕ) → length bytes �
 writes_front bytes lent h e =
     let fits = fits_written bytes lent h in
     record { gives = rw fits; leaves = rw fits e }
+
+-- they are copied
+pub writes_copy : {done : Bool} {left : List ℕ} (bytes lent : List ℕ) → Copied bytes (length bytes) lent done left
+    → Writes true bytes lent (done ⇒ Some (length bytes) ∣ None) left
+unfolding is_written
+writes_copy {done} bytes lent c =
+    let all : take (length bytes) bytes ≡ bytes = take_all (length bytes) bytes (omega arith) in
+    let fits : done ≡ leb (length bytes) (length lent) = rw (le-leb (length bytes) (length bytes) (omega arith)) at c.fits in
+    record { gives = rw fits; leaves = rw (fits, all) at c.stands }
 
 -- ---- what is given says whether they were written
 

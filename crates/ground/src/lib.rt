@@ -6,7 +6,7 @@ ghost use Rattle.ground.specs.Copied.{Copied};
 ghost use Rattle.ground.specs.Lent.{to_front};
 
 // Copies the first n of a slice to the front of another and says so, where both have so many. Otherwise the other stays as
-// lent. It is public and stays as it promises; the crates here have tested the room where they copy.
+// lent.
 pub fn copy<T: Copy>(from: &[T], n: usize, to: &mut [T]) -> bool
     ensures { Copied from.now n to.old result to.new }
 {

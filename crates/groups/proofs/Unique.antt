@@ -1,31 +1,31 @@
 -- Each public function of the crate has one outcome on every input: any two that its contract admits are equal.
-use Rattle.std.proofs.Common.{◌≡◌, refl, sym, ap, ◌∙◌, ℕ, Result, Ok, Err, arith}
+use Rattle.std.proofs.Common.{◌≡◌, sym, ap, ◌∙◌, ℕ, Result, Ok, Err, arith}
 use Rattle.ground.specs.Unique.{Unique}
 use Rattle.groups.specs.declared.Fault.{Fault}
-use Rattle.groups.specs.declared.Kind.{Kind}
-use Rattle.groups.specs.declared.Kind.TheVariants.{Ends, Padded, Large}
+use Rattle.groups.specs.declared.Fault.TheVariants.{Ends, Padded, Large}
 use Rattle.groups.specs.declared.Numeral.{Numeral}
-use Rattle.groups.specs.Given.{kind_number, number_of, place_of, found_of}
+use Rattle.groups.specs.Given.{number_of, place_of, found_of}
 use Rattle.groups.proofs.Fault.number.Reads as number
+use Rattle.groups.proofs.Fault.place.Reads as place
 use Rattle.groups.proofs.number_at.Reads as number_at
 
 pub number_unique : Unique number.Learnt
 number_unique k a r r' e e' p q = p ∙ sym q
 
--- its number and its place tell a fault
-one_kind : (k l : Kind) → kind_number k ≡ kind_number l → k ≡ l
-one_kind Ends Ends e = refl
-one_kind Padded Padded e = refl
-one_kind Large Large e = refl
-one_kind Ends Padded e = absurd (omega arith)
-one_kind Ends Large e = absurd (omega arith)
-one_kind Padded Ends e = absurd (omega arith)
-one_kind Padded Large e = absurd (omega arith)
-one_kind Large Ends e = absurd (omega arith)
-one_kind Large Padded e = absurd (omega arith)
+pub place_unique : Unique place.Learnt
+place_unique k a r r' e e' p q = p ∙ sym q
 
+-- its number and its place tell a fault
 pub one_fault : (f g : Fault) → number_of f ≡ number_of g → place_of f ≡ place_of g → f ≡ g
-one_fault f g k p = let kind = one_kind f.kind g.kind k in λ i. record { kind = kind i; place = p i }
+one_fault (Ends p) (Ends q) k e = ap Ends e
+one_fault (Padded p) (Padded q) k e = ap Padded e
+one_fault (Large p) (Large q) k e = ap Large e
+one_fault (Ends p) (Padded q) k e = absurd (omega arith)
+one_fault (Ends p) (Large q) k e = absurd (omega arith)
+one_fault (Padded p) (Ends q) k e = absurd (omega arith)
+one_fault (Padded p) (Large q) k e = absurd (omega arith)
+one_fault (Large p) (Ends q) k e = absurd (omega arith)
+one_fault (Large p) (Padded q) k e = absurd (omega arith)
 
 one_found : (s t : Result Numeral Fault) → found_of s ≡ found_of t → s ≡ t
 one_found (Ok n) (Ok m) e =

@@ -3,24 +3,17 @@
 
 ghost use Rattle.std.specs.Prelude.{◌≡◌};
 ghost use Rattle.groups.specs.Number.{is_padded, is_large, number_at};
-ghost use Rattle.groups.specs.Given.{number_of, found_of};
+ghost use Rattle.groups.specs.Given.{number_of, place_of, found_of};
 
-// What can be wrong with a number. C has each case by its number.
+// What is wrong with a number, and the place of the byte that shows it.
 #[derive(Clone, Copy, PartialEq, Eq)]
-pub enum Kind {
-    // The bytes end inside it, or before it.
-    Ends = 1,
+pub enum Fault {
+    // The bytes end inside it, or before it; the place is that of the byte that is missing.
+    Ends(usize),
     // It has several bytes, and the last is zero.
-    Padded = 2,
+    Padded(usize),
     // Its fifth byte is above 15.
-    Large = 3,
-}
-
-// What is wrong with a number, and the place of the byte that shows it; where the bytes end, of the byte that is missing.
-#[derive(Clone, Copy, PartialEq, Eq)]
-pub struct Fault {
-    pub kind: Kind,
-    pub place: usize,
+    Large(usize),
 }
 
 impl Fault {
@@ -28,7 +21,20 @@ impl Fault {
     pub fn number(self) -> u32
         ensures { result ≡ number_of self }
     {
-        self.kind as u32
+        match self {
+            Fault::Ends(_) => 1,
+            Fault::Padded(_) => 2,
+            Fault::Large(_) => 3,
+        }
+    }
+
+    // Its place.
+    pub fn place(self) -> usize
+        ensures { result ≡ place_of self }
+    {
+        match self {
+            Fault::Ends(p) | Fault::Padded(p) | Fault::Large(p) => p,
+        }
     }
 }
 
@@ -66,16 +72,10 @@ pub fn number_at(bytes: &[u8], from: usize) -> Result<Numeral, Fault>
     for at in from..bytes.len() {
         let b = bytes[at];
         if is_padded(at - from, b) {
-            return Err(Fault {
-                kind: Kind::Padded,
-                place: at,
-            });
+            return Err(Fault::Padded(at));
         }
         if is_large(at - from, b) {
-            return Err(Fault {
-                kind: Kind::Large,
-                place: at,
-            });
+            return Err(Fault::Large(at));
         }
         value += (b % 128) as u32 * weight;
         if b < 128 {
@@ -86,8 +86,5 @@ pub fn number_at(bytes: &[u8], from: usize) -> Result<Numeral, Fault>
         }
         weight *= 128;
     }
-    Err(Fault {
-        kind: Kind::Ends,
-        place: from.max(bytes.len()),
-    })
+    Err(Fault::Ends(from.max(bytes.len())))
 }

@@ -1,7 +1,6 @@
 -- The reports of a whole log: where each step starts, and why they come to an end.
 use mathlib.Core.Path.{◌≡◌, refl, sym, ap, ◌∙◌}
 use mathlib.Core.List.{List, []}
-use Rattle.std.specs.Prelude.{Some, Ok, Err}
 use Prim.Native.Nat.{ℕ, ◌+◌, ◌<◌, ◌≤◌}
 use native.Mathlib.Numerals.{add-one}
 use native.Mathlib.Omega.{arith}
@@ -14,6 +13,7 @@ use Rattle.groups.specs.declared.Fault.{Fault}
 use Rattle.groups.specs.Given.{place_of}
 use Rattle.groups.proofs.Bytes.{scan_bounds}
 use Rattle.groups.proofs.Faults.{scan_begun}
+use Rattle.logs.specs.declared.Answer.TheVariants.{Read, Faulty}
 use Rattle.logs.specs.declared.LogStep.{LogStep}
 use Rattle.logs.specs.declared.Taken.{Taken}
 use Rattle.logs.specs.Log.{takes, step_at}
@@ -88,16 +88,16 @@ module _ (log : List ℕ) (from : ℕ) where
 
 -- the same of what is taken at a place
 module _ (log : List ℕ) (at : ℕ) (t : Taken) (e : step_of t.answer t.next ≡ step_at log at) where
-  pub taken_report : (r : Report) → t.answer ≡ Ok (Some r) → (at + 8 ≤ t.next) × (t.next ≤ length log)
+  pub taken_report : (r : Report) → t.answer ≡ Read r → (at + 8 ≤ t.next) × (t.next ≤ length log)
   taken_report r is =
-      let step = in_case t (Ok (Some r)) is e in
+      let step = in_case t (Read r) is e in
       let moves = report_moves log at (sym (ap (λ (s : LogStep). s.kind) step)) in
       let next = ap (λ (s : LogStep). s.next) step in
       (omega (arith, moves.0), omega (arith, moves.1))
 
-  pub taken_fault : (f : Fault) → t.answer ≡ Err f → place_of f ≤ length log
+  pub taken_fault : (f : Fault) → t.answer ≡ Faulty f → place_of f ≤ length log
   taken_fault f is =
-      let step = in_case t (Err f) is e in
+      let step = in_case t (Faulty f) is e in
       let place = ap (λ (s : LogStep). s.place) step in
       omega (arith, fault_within log at (sym (ap (λ (s : LogStep). s.kind) step)))
 

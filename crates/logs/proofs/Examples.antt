@@ -13,13 +13,15 @@ use Rattle.report.specs.declared.Report.{Report}
 use Rattle.eight.specs.Numbers.{values_of, eights_of}
 use Rattle.groups.specs.Number.{value, fault, code_in, code, is_padded, is_large, scan, number_at}
 use Rattle.groups.specs.Relied.{Below, NumberStands, worth}
-use Rattle.groups.specs.declared.Kind.TheVariants.{Padded}
+use Rattle.groups.specs.declared.Fault.TheVariants.{Padded}
 use Rattle.coding.specs.Coding.{has_room, no_room, WritesReport}
+use Rattle.logs.specs.declared.Answer.{Answer}
+use Rattle.logs.specs.declared.Answer.TheVariants.{Faulty}
 use Rattle.logs.specs.declared.Unwritten.TheVariants.{NoRoom, Incomplete}
 use Rattle.logs.specs.declared.LogStep.{LogStep}
 use Rattle.logs.specs.declared.Reader.{Reader}
 use Rattle.logs.specs.Log.{coded, report_step, end_step, fault_step, after, takes, step_at}
-use Rattle.logs.specs.Answer.{Handed, Steps}
+use Rattle.logs.specs.Answer.{Steps}
 use Rattle.logs.specs.Writing.{fitting, WritesReports}
 use Rattle.logs.specs.Relied.{no_more, one_and, HandsOut, Runs, no_call, call_and, ReadsBack, SameAgain}
 use Rattle.logs.proofs.Rewritten.{write_reads_back}
@@ -104,8 +106,8 @@ cut_between_numbers = refl
 -- ---- calls
 
 -- a padded zero, whose second byte is at place 1
-abbrev pub padded_zero : Handed
-padded_zero = Err (record { kind = Padded; place = 1 })
+abbrev pub padded_zero : Answer
+padded_zero = Faulty (Padded 1)
 
 -- three calls of a reader at one
 pub three_calls : (r : Reader) → r.log.now ≡ 128 ∷ 0 ∷ [] → r.at ≡ 0

@@ -11,11 +11,12 @@ use borrow.Author.Tests.{ltb-true, ltb-false}
 use Rattle.ground.specs.Unique.{Unique, UniqueLeft}
 use Rattle.ground.proofs.Booleans.{either}
 use Rattle.coding.proofs.Placed.{one_placing}
+use Rattle.logs.specs.declared.Answer.{Answer}
 use Rattle.logs.specs.declared.Contents.{Contents}
 use Rattle.logs.specs.declared.LogStep.{LogStep}
 use Rattle.logs.specs.declared.Reader.{Reader}
 use Rattle.logs.specs.declared.Taken.{Taken}
-use Rattle.logs.specs.Answer.{Handed, step_of, Starts, Steps, Holds}
+use Rattle.logs.specs.Answer.{step_of, Starts, Steps, Holds}
 use Rattle.logs.proofs.Answers.{one_answer, one_next, kind_report}
 use Rattle.logs.proofs.Several.{all_one}
 use Rattle.logs.proofs.taken_at.Reads as taken_at
@@ -73,7 +74,7 @@ write_all_unique k a r r' e e' = all_one
 pub new_unique : {log : Bor (List ℕ)} {r r' : Reader} → Starts log r → Starts log r' → r ≡ r'
 new_unique p q = λ i. record { log = (p.holds ∙ sym q.holds) i; at = (p.front ∙ sym q.front) i }
 
-pub next_unique : {was is is' : Reader} {a a' : Handed} → Steps was a is → Steps was a' is' → (a ≡ a') × (is ≡ is')
+pub next_unique : {was is is' : Reader} {a a' : Answer} → Steps was a is → Steps was a' is' → (a ≡ a') × (is ≡ is')
 next_unique {is = is} {is' = is'} {a = a} {a' = a'} p q =
     let same = p.gives ∙ sym q.gives in
     let place = one_next is.at is'.at a a' same in

@@ -8,11 +8,12 @@ use Rattle.report.specs.declared.Report.{Report}
 use Rattle.eight.specs.Numbers.{values_of}
 use Rattle.groups.specs.Number.{code}
 use Rattle.groups.specs.Relied.{Below, Shows}
+use Rattle.logs.specs.declared.Answer.{Answer}
 use Rattle.logs.specs.declared.LogStep.{LogStep}
 use Rattle.logs.specs.declared.Reader.{Reader}
 use Rattle.logs.specs.declared.ReportsWritten.{ReportsWritten}
 use Rattle.logs.specs.Log.{coded, report_step, end_step, fault_step, step_at}
-use Rattle.logs.specs.Answer.{Handed, Steps}
+use Rattle.logs.specs.Answer.{Steps}
 
 -- ---- one step
 
@@ -66,9 +67,9 @@ AllFit [] = Unit {0}
 AllFit (r ∷ rs) = Below (2 ^ 32) (values_of r) × AllFit rs
 
 -- calls of a reader, one after the other, and what they answer
-pub data Runs : Reader → List Handed → Reader → Type 0 where
+pub data Runs : Reader → List Answer → Reader → Type 0 where
   no_call : {r : Reader} → Runs r [] r
-  call_and : {was is then : Reader} {a : Handed} {more : List Handed} → Steps was a is → Runs is more then
+  call_and : {was is then : Reader} {a : Answer} {more : List Answer} → Steps was a is → Runs is more then
       → Runs was (a ∷ more) then
 
 -- ---- reports that were written

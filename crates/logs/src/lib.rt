@@ -10,8 +10,13 @@ pub use coding::{NoRoom, write};
 use groups::Fault;
 use report::Report;
 
-// What a reader hands out: a report, or none at the end, which stands between reports only; or what is wrong.
-pub type Answer = Result<Option<Report>, Fault>;
+// What a reader hands out: a report, the end, which stands between reports only, or what is wrong.
+#[derive(Clone, Copy)]
+pub enum Answer {
+    Read(Report),
+    End,
+    Faulty(Fault),
+}
 
 // An answer, and the place from which the next is read: after a report behind it, otherwise the same.
 #[derive(Clone, Copy)]
@@ -61,16 +66,16 @@ impl From<Taken> for LogStep {
             report: eight::report_of([0; 8]),
         };
         match t.answer {
-            Ok(Some(report)) => LogStep {
+            Answer::Read(report) => LogStep {
                 kind: 0,
                 report,
                 ..end
             },
-            Ok(None) => end,
-            Err(fault) => LogStep {
+            Answer::End => end,
+            Answer::Faulty(fault) => LogStep {
                 kind: 2,
                 fault: fault.number(),
-                place: fault.place as u64,
+                place: fault.place() as u64,
                 ..end
             },
         }
@@ -117,17 +122,17 @@ pub fn taken_at(log: &[u8], from: usize) -> Taken
     let mut next = from;
     if log.len() <= from {
         return Taken {
-            answer: Ok(None),
+            answer: Answer::End,
             next,
         };
     }
     match report_from(log, &mut next) {
         Ok(report) => Taken {
-            answer: Ok(Some(report)),
+            answer: Answer::Read(report),
             next,
         },
         Err(fault) => Taken {
-            answer: Err(fault),
+            answer: Answer::Faulty(fault),
             next: from,
         },
     }
@@ -159,7 +164,7 @@ pub fn reports_in(log: &[u8]) -> Contents
 {
     let mut reports = 0;
     let mut last = taken_at(log, 0);
-    while let Ok(Some(_)) = last.answer {
+    while let Answer::Read(_) = last.answer {
         last = taken_at(log, last.next);
         reports += 1;
     }

@@ -4,6 +4,7 @@
 
 ghost use Rattle.std.specs.Prelude.{◌+◌, ◌^◌, ◌<◌, ◌≤◌, length, IfOk, IfSome};
 
+use logs::Answer;
 use std::io::{Read, Write};
 use std::{fmt, io};
 
@@ -94,7 +95,7 @@ fn put_line(part: &[u8], at: usize, out: &mut [u8]) -> Option<Line>
     ensures { IfSome result (λ line. (line.length ≤ length out.new) × (at < line.next) × (line.next ≤ length part.now)) }
 {
     let t = logs::taken_at(part, at);
-    let Ok(Some(report)) = t.answer else {
+    let Answer::Read(report) = t.answer else {
         return None;
     };
     Some(Line {
@@ -136,9 +137,13 @@ fn print_last<W: Write>(output: &mut W, part: &[u8], at: usize, before: u64) -> 
 {
     let mut line = [0; listing::LONGEST_LINE];
     let n = match logs::taken_at(part, at).answer {
-        Ok(Some(_)) => None,
-        Ok(None) => listing::end(&mut line),
-        Err(fault) => listing::fault(fault.number(), before + fault.place as u64, &mut line),
+        Answer::Read(_) => None,
+        Answer::End => listing::end(&mut line),
+        Answer::Faulty(fault) => listing::fault(
+            fault.number(),
+            before + fault.place() as u64,
+            &mut line,
+        ),
     };
     output.write_all(&line[..n.unwrap_or(0)])
 }

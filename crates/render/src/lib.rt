@@ -57,10 +57,7 @@ impl Entry for Part {
     }
 
     fn put(phases: &[Part], out: &mut [Part]) {
-        let n = phases.len();
-        if n <= out.len() {
-            out[..n].copy_from_slice(phases);
-        }
+        ground::copy(phases, phases.len(), out);
     }
 }
 

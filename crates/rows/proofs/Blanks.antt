@@ -1,5 +1,5 @@
--- A column with a blank below its last row has no other rows: where none is asked for, a blank stands as well.
-use mathlib.Core.Path.{◌≡◌, refl}
+-- A column with blanks below its last row has no other rows.
+use mathlib.Core.Path.{◌≡◌, refl, ◌∙◌}
 use mathlib.Core.List.{List, [], ◌∷◌, ◌++◌}
 use Prim.Native.Nat.{ℕ, zero, suc}
 use lib.ListN.{get_or}
@@ -15,3 +15,9 @@ blank [] zero = refl
 blank [] (suc i) = refl
 blank (x ∷ xs) zero = refl
 blank (x ∷ xs) (suc i) = blank xs i
+
+pub two_blanks : (xs : List Beam) (i : ℕ) → at (xs ++ beam 0 0 ∷ [] ++ beam 0 0 ∷ []) i ≡ at xs i
+two_blanks xs i = blank (xs ++ beam 0 0 ∷ []) i ∙ blank xs i
+
+pub three_blanks : (xs : List Beam) (i : ℕ) → at (xs ++ beam 0 0 ∷ [] ++ beam 0 0 ∷ [] ++ beam 0 0 ∷ []) i ≡ at xs i
+three_blanks xs i = two_blanks (xs ++ beam 0 0 ∷ []) i ∙ blank xs i

@@ -9,9 +9,9 @@ use turn::Beam;
 
 // The codes of one to eight layers of whole beams: 512 times the place of a beam, 0 to 3 for B, B', B'', B'''; 256 more where
 // f is added to the second polarisation, and 2 more where half a turn is.
-const ONE: [u16; 8] = [256, 0, 0, 0, 0, 0, 0, 0]; // [B; f]
+pub const ONE: [u16; 8] = [256, 0, 0, 0, 0, 0, 0, 0]; // [B; f]
 
-const TWO: [u16; 8] = [256, 770, 0, 0, 0, 0, 0, 0]; // [B; f], [B'; f+½]
+pub const TWO: [u16; 8] = [256, 770, 0, 0, 0, 0, 0, 0]; // [B; f], [B'; f+½]
 
 const THREE: [u16; 8] = [256, 768, 258, 0, 0, 0, 0, 0]; // [B; f], [B'; f], [B; f+½]
 

@@ -35,8 +35,7 @@ pub fn put(text: &[u8], out: &mut [u8]) -> Option<usize>
     ensures { Writes true text.now out.old result out.new }
 {
     let n = text.len();
-    if n <= out.len() {
-        out[..n].copy_from_slice(text);
+    if ground::copy(text, n, out) {
         Some(n)
     } else {
         None

@@ -25,13 +25,6 @@ loop-j-preserved c =
           (l.invariant.found ∙ rw next (sym (append_snoc (take l.j l.value-items) _ _)));
     }
 
-pub returns-then-not-is_empty : goal.returns-then-not-is_empty
-returns-then-not-is_empty c =
-    let l = c.loop-j in
-    let some = eqb-false _ _ (sym c.if-not-is_empty.ensures) in
-    let none : 8 - l.j ≡ 0 = omega arith in
-    reads_nothing _ (l.invariant.same ∙ rw none (good_some l.rest.now some))
-
 pub returns : goal.returns
 unfolding good words
 returns c =
@@ -42,3 +35,10 @@ returns c =
     let values = ap values_of c.report_of.ensures ∙ values_of_eight l.value-items l.invariant.long in
     reads_report _ (omega arith) (l.invariant.same ∙ rw (none, empty))
     (rw (none, append-nil, all) at l.invariant.found ∙ sym values)
+
+pub returns-then-not-is_empty : goal.returns-then-not-is_empty
+returns-then-not-is_empty c =
+    let l = c.loop-j in
+    let some = eqb-false _ _ (sym c.if-not-is_empty.ensures) in
+    let none : 8 - l.j ≡ 0 = omega arith in
+    reads_nothing _ (l.invariant.same ∙ rw none (good_some l.rest.now some))

@@ -19,19 +19,17 @@ held t e is = sym (ap (λ (s : LogStep). s.kind) e) ∙ report_kind t.answer t.n
 pub loop-last-smaller : goal.loop-last-smaller
 loop-last-smaller c =
     let l = c.loop-last in
-    let some = rw c.in-Ok-Some.is at c.in-Ok-Some.field-0-is in
-    let report = held l.last l.invariant.holds (rw (c.in-Ok-Some.is, some) refl) in
+    let report = held l.last l.invariant.holds (rw c.in-Read.is refl) in
     let more = one_more _ l.reports l.invariant.reported report in
     omega (arith, later _ l.reports l.invariant.reported report, more.within)
 
 pub loop-last-preserved : goal.loop-last-preserved
 loop-last-preserved c =
     let l = c.loop-last in
-    let some = rw c.in-Ok-Some.is at c.in-Ok-Some.field-0-is in
-    let report = held l.last l.invariant.holds (rw (c.in-Ok-Some.is, some) refl) in
+    let report = held l.last l.invariant.holds (rw c.in-Read.is refl) in
     let next = place_next _ l.reports l.invariant.reported report in
     let place = step_next l.last.answer l.last.next ∙ ap (λ (s : LogStep). s.next) l.invariant.holds ∙ sym next in
     record {
       reported = one_more _ l.reports l.invariant.reported report;
-      holds = c.taken_at-last-in-Ok-Some.ensures ∙ ap (step_at _) place;
+      holds = c.taken_at-last-in-Read.ensures ∙ ap (step_at _) place;
     }

@@ -1,5 +1,5 @@
 -- The tests are those of the definition, in their order.
-use Rattle.std.proofs.Common.{◌≡◌, ◌<◌, ℕ, List, false}
+use Rattle.std.proofs.Common.{◌≡◌, ◌<◌, ℕ, List, false, arith}
 use borrow.Author.Tests.{le-leb, lt-leb}
 use Rattle.ground.proofs.Booleans.{and_nothing}
 use Rattle.plan.specs.declared.Record.{Record}
@@ -25,15 +25,6 @@ module _ (a : Record) (phases : List ℕ) where
   unfolding printable
   scale h = rw (lt-leb a.scale 999 h, and_nothing _)
 
-pub returns-then-a-gt999 : goal.returns-then-a-gt999
-returns-then-a-gt999 c =
-    elim c.then-a-gt999.branch [
-      | then-a-gt999-via-then-a-gt999 w ↦ refusal _ _ w.if-a-gt999.true
-      | then-a-gt999-via-else-a-gt999+then-a-gt-MOST_PORTS w ↦ ports _ _ w.if-a-gt-MOST_PORTS.true
-      | then-a-gt999-via-else-a-gt999+else-a-gt-MOST_PORTS+then-a-gt-MOST_LAYERS w ↦ layers _ _ w.if-a-gt-MOST_LAYERS.true
-      | then-a-gt999-via-else-a-gt999+else-a-gt-MOST_PORTS+else-a-gt-MOST_LAYERS+then-a-gt999-2 w ↦ scale _ _ w.if-a-gt999-2.true
-    ]
-
 pub returns-then-n-phases : goal.returns-then-n-phases
 unfolding printable
 returns-then-n-phases c =
@@ -51,3 +42,12 @@ pub returns-else-n-phases : goal.returns-else-n-phases
 unfolding printable
 returns-else-n-phases c =
     rw (lt-leb _ _ c.if-n-phases.false, and_nothing _)
+
+pub returns-then-a-gt999 : goal.returns-then-a-gt999
+returns-then-a-gt999 c =
+    elim c.then-a-gt999.branch [
+      | then-a-gt999-via-then-a-gt999 w ↦ refusal _ _ w.if-a-gt999.true
+      | then-a-gt999-via-else-a-gt999+then-a-gt-MOST_PORTS w ↦ ports _ _ (omega (arith, w.if-a-gt-MOST_PORTS.true))
+      | then-a-gt999-via-else-a-gt999+else-a-gt-MOST_PORTS+then-a-gt-MOST_LAYERS w ↦ layers _ _ w.if-a-gt-MOST_LAYERS.true
+      | then-a-gt999-via-else-a-gt999+else-a-gt-MOST_PORTS+else-a-gt-MOST_LAYERS+then-a-gt999-2 w ↦ scale _ _ w.if-a-gt999-2.true
+    ]

@@ -51,6 +51,21 @@ loop-c-init c =
     let a = c.args in
     subst (λ (xs : List ℕ). Laid a.out.now a.at xs a.at a.out.now) (sym (fed_none a.ports.offsets.now)) (laid_none _ _)
 
+pub loop-c-preserved : goal.loop-c-preserved
+loop-c-preserved c =
+    let a = c.args in
+    let s = a.s.now in
+    let l = c.loop-c in
+    let few = c.requires.0.pairs in
+    let row = c.co_phases-co.ensures in
+    let step = get_or s.steps (place_of a.code) 0 in
+    let r = room _ s a.code step l.c-index c.requires.0 c.requires.1 row c.loop-c-test.true l.invariant in
+    let h = rw (turns s.co a.code s.pairs row few) at c.loop-c-test.true in
+    laid_block a.ports.offsets.now s.co a.code s.rows s.columns (step_x step) (step_y step) l.c-index (l.to - a.at) _ l.invariant r.here
+    (c.draw.ensures
+    ∙ ap (λ (k : ℕ). fed (drop (l.to - a.at) a.ports.offsets.now) (placed s.columns (step_x step) (step_y step) k))
+    (added s.co a.code s.pairs l.c-index row few h)) (sixteen _) c.requires.0.some c.requires.0.block r.first
+
 pub overflow_sub-to : goal.overflow_sub-to
 overflow_sub-to c =
     let s = c.args.s.now in
@@ -79,21 +94,6 @@ draw-requires c =
       r.offsets,
       places l.to l.out r.first,
     )
-
-pub loop-c-preserved : goal.loop-c-preserved
-loop-c-preserved c =
-    let a = c.args in
-    let s = a.s.now in
-    let l = c.loop-c in
-    let few = c.requires.0.pairs in
-    let row = c.co_phases-co.ensures in
-    let step = get_or s.steps (place_of a.code) 0 in
-    let r = room _ s a.code step l.c-index c.requires.0 c.requires.1 row c.loop-c-test.true l.invariant in
-    let h = rw (turns s.co a.code s.pairs row few) at c.loop-c-test.true in
-    laid_block a.ports.offsets.now s.co a.code s.rows s.columns (step_x step) (step_y step) l.c-index (l.to - a.at) _ l.invariant r.here
-    (c.draw.ensures
-    ∙ ap (λ (k : ℕ). fed (drop (l.to - a.at) a.ports.offsets.now) (placed s.columns (step_x step) (step_y step) k))
-    (added s.co a.code s.pairs l.c-index row few h)) (sixteen _) c.requires.0.some c.requires.0.block r.first
 
 pub returns : goal.returns
 unfolding column_at beam_at
