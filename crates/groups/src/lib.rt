@@ -5,7 +5,8 @@ ghost use Rattle.std.specs.Prelude.{◌≡◌};
 ghost use Rattle.groups.specs.Number.{is_padded, is_large, number_at};
 ghost use Rattle.groups.specs.Given.{number_of, place_of, found_of};
 
-// What is wrong with a number, and the place of the byte that shows it.
+// What is wrong with a number, and the place of the byte that shows it: a form that the scope names (docs/DECISIONS.md,
+// "Forms").
 #[derive(Clone, Copy, PartialEq, Eq)]
 pub enum Fault {
     // The bytes end inside it, or before it; the place is that of the byte that is missing.

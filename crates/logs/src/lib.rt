@@ -10,7 +10,8 @@ pub use coding::{NoRoom, write};
 use groups::Fault;
 use report::Report;
 
-// What a reader hands out: a report, the end, which stands between reports only, or what is wrong.
+// What a reader hands out: a report, the end, which stands between reports only, or what is wrong. The scope names this form
+// (docs/DECISIONS.md, "Forms").
 #[derive(Clone, Copy)]
 pub enum Answer {
     Read(Report),

@@ -1,4 +1,4 @@
--- The text of an answer, and what a call that writes one gives and leaves.
+-- The text of an answer, and which records have one.
 use Rattle.std.specs.Prelude.{Bool, ◌&&◌, List, [], ◌∷◌, ◌++◌, ℕ, zero, suc, ◌+◌, ◌*◌, eqb, leb, length, take}
 use Rattle.ground.specs.Cases.{◌⇒◌∣◌}
 use Rattle.ground.specs.Lists.{each}
