@@ -1,6 +1,6 @@
 -- Laws of a number and of a report as they are written; then theorems.
-pub mod Lengths
 pub mod Putting
+pub mod Lengths
 pub mod Numbered
 pub mod Placed
 pub mod Unique

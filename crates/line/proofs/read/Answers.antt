@@ -29,7 +29,7 @@ pub returns : goal.returns
 unfolding good words
 returns c =
     let l = c.loop-j in
-    let empty = nothing_left l.rest.now (eqb-true _ _ (sym c.if-not-is_empty.ensures)) in
+    let empty = nothing_left l.rest.now (omega (arith, eqb-true _ _ (sym c.if-not-is_empty.ensures))) in
     let none : 8 - l.j ≡ 0 = omega arith in
     let all = take_all l.j l.value-items (omega (arith, l.invariant.long)) in
     let values = ap values_of c.report_of.ensures ∙ values_of_eight l.value-items l.invariant.long in
